@@ -26,13 +26,15 @@ pub fn run_turns<G: Grade>(
     requires labels { ⌜ length (now labels) ≡ n + 1 ⌝ }
     requires ways { ⌜ length (now ways) ≡ n + 1 ⌝ }
     requires taken { ⌜ length (now taken) ≡ n + 1 ⌝ }
+    requires end { ⌜ end ≤ n ⌝ }
     ensures { λ _. ⌜ state-of (now (lines .entry)) (now (labels .exit)) (now (ways .exit)) (now (taken .exit)) ≡ search-from (label-le le) (rule-of le (table-line n (now (first .entry)) (now (lines .entry)))) n end n (state-of (now (lines .entry)) (now (labels .entry)) (now (ways .entry)) (now (taken .entry))) ⌝ }
 {
     for _turn in 0..n {
         let Some(choice) = best(lines, labels, taken, n) else {
             return;
         };
-        if choice.bridge == end {
+        let is_end = choice.bridge == end;
+        if is_end {
             taken[choice.bridge as usize] = 1;
             return;
         }
@@ -57,6 +59,7 @@ pub fn run_search<G: Grade>(
     requires ways { ⌜ length (now ways) ≡ n + 1 ⌝ }
     requires taken { ⌜ length (now taken) ≡ n + 1 ⌝ }
     requires start { ⌜ start ≤ n ⌝ }
+    requires end { ⌜ end ≤ n ⌝ }
     ensures { λ _. ⌜ state-of (now (lines .entry)) (now (labels .exit)) (now (ways .exit)) (now (taken .exit)) ≡ searched le (table-line n (now (first .entry)) (now (lines .entry))) n start end ⌝ }
 {
     begin(lines, labels, ways, taken, start);

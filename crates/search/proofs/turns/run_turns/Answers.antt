@@ -26,7 +26,7 @@ loop-turn-again g c =
     let k : ℕ = c .args .n - (c .loop-turn .-turn + 1) in
     let more : c .args .n - c .loop-turn .-turn ≡ suc k = omega arith in
     ap (search-from (label-le le) rule (c .args .n) (c .args .end) k) (c .take-bridge .ensures)
-    ∙ sym (turn-on le rule (c .args .n) (c .args .end) s k (c .in-Some .choice) (c .in-Some .ensures tt .picks ways) (ne-eqb _ _ (c .if-choice-end .left)))
+    ∙ sym (turn-on le rule (c .args .n) (c .args .end) s k (c .in-Some .choice) (c .in-Some .ensures tt .picks ways) (ne-eqb _ _ (c .if-is-end .left)))
     ∙ (rw more at (c .loop-turn .inv))
 
 pub returns : need.returns
@@ -45,8 +45,8 @@ returns-in-rest g c =
     sym (turn-none le (rule-of le (table-line (c .args .n) (c .args .first .now) lines)) (c .args .n) (c .args .end) s k (c .in-rest .ensures tt .picks ways))
     ∙ (rw more at (c .loop-turn .inv))
 
-pub returns-then-choice-end : need.returns-then-choice-end
-returns-then-choice-end g c =
+pub returns-then-is-end : need.returns-then-is-end
+returns-then-is-end g c =
     let le = g .G·Grade .le in
     let lines = c .args .lines .now in
     let ways = c .loop-turn .ways in
@@ -55,6 +55,6 @@ returns-then-choice-end g c =
     let k : ℕ = c .args .n - (c .loop-turn .-turn + 1) in
     let more : c .args .n - c .loop-turn .-turn ≡ suc k = omega arith in
     let chosen = c .in-Some .ensures tt in
-    state-path refl (ap (λ u. takens (set taken u 1)) (c .if-choice-end .taken) ∙ taken-set taken (c .args .end) (omega (arith, chosen .within)))
-    ∙ sym (turn-end le (rule-of le (table-line (c .args .n) (c .args .first .now) lines)) (c .args .n) (c .args .end) s k (c .in-Some .choice) (chosen .picks ways) (eq-eqb _ _ (c .if-choice-end .taken)))
+    state-path refl (ap (λ u. takens (set taken u 1)) (c .if-is-end .taken) ∙ taken-set taken (c .args .end) (omega (arith, chosen .within)))
+    ∙ sym (turn-end le (rule-of le (table-line (c .args .n) (c .args .first .now) lines)) (c .args .n) (c .args .end) s k (c .in-Some .choice) (chosen .picks ways) (eq-eqb _ _ (c .if-is-end .taken)))
     ∙ (rw more at (c .loop-turn .inv))

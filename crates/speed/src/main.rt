@@ -10,6 +10,7 @@ use std::error::AnyError;
 use std::time::Instant;
 
 const BRIDGES: u16 = 256;
+
 const QUESTIONS: u32 = 2_000;
 
 // The tables of a book of 256 bridges and 1,024 line slots, and the memory that its calls are lent.

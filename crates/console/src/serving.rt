@@ -1,0 +1,29 @@
+// A whole script, from what reads to what writes.
+use crate::blocks::answer_block;
+use crate::blocks::answer_rest;
+use answers::Book;
+use input::Held;
+use std::alloc::Global;
+use std::error::AnyError;
+use std::io::Read;
+use std::io::Write;
+
+// Reads a script to its end and writes the reply to each line, on a book of its own.
+// However long a line is, no more than a block and the line's first bytes are kept of it.
+pub fn serve<R: Read, W: Write>(heap: Global, input: &mut R, out: &mut W) -> Result<(), AnyError> {
+    let mut book = Book::new();
+    let mut held = Held::new();
+    let mut block = [0u8; 4096];
+    for _ in 0..u64::MAX {
+        let count = input.read(&mut block)?;
+        if count == 0 {
+            break;
+        }
+        let text = answer_block(heap, &mut book, &mut held, &block[0..count])?;
+        out.write_all(text.as_bytes())?;
+    }
+    let text = answer_rest(heap, &mut book, &held)?;
+    out.write_all(text.as_bytes())?;
+    out.flush()?;
+    Ok(())
+}

@@ -44,8 +44,8 @@ other e n h number =
 
 pub returns-in-WrongScriptLine : need.returns-in-WrongScriptLine
 returns-in-WrongScriptLine c =
-    made-weaker (c .format .result) _ _ (λ s e. e ∙ bad-line (c .args .refusal) (c .in-WrongScriptLine .place) (c .number-number .result) (c .in-WrongScriptLine .is) (c .number-number .ensures)) (c .format .ensures .made)
+    made-weaker (c .placed .result) _ _ (λ s e. e ∙ bad-line (c .args .refusal) (c .in-WrongScriptLine .place) (c .number-number .result) (c .in-WrongScriptLine .is) (c .number-number .ensures)) (c .placed .ensures)
 
 pub returns-in-rest : need.returns-in-rest
 returns-in-rest c =
-    made-weaker (c .format-in-rest .result) _ _ (λ s e. e ∙ other (c .args .refusal) (c .number-number .result) (c .in-rest .not-WrongScriptLine) (c .number-number .ensures)) (c .format-in-rest .ensures .made)
+    made-weaker (c .numbered .result) _ _ (λ s e. e ∙ other (c .args .refusal) (c .number-number .result) (c .in-rest .not-WrongScriptLine) (c .number-number .ensures)) (c .numbered .ensures)

@@ -1,4 +1,14 @@
 // The replies to the lines of a block.
+ghost use mathlib.Core.Path.{_≡_};
+ghost use mathlib.Core.List.{List, [], _∷_, _++_};
+ghost use Prim.Native.Nat.{ℕ};
+ghost use lib.ListN.{take};
+ghost use Rattle.std.specs.Of.String.{string-bytes};
+ghost use Rattle.std.specs.Vec.{made};
+ghost use Rattle.answers.specs.Answers.{tables};
+ghost use Rattle.input.specs.Lines.{finished, unfinished, last-line};
+ghost use Rattle.input.specs.Filling.{kept};
+ghost use Rattle.console.specs.Replied.{Replied};
 use answers::Book;
 use answers::answer_line;
 use input::Held;
@@ -12,10 +22,13 @@ fn put_reply(
     book: &mut Book,
     held: &Held,
     text: &mut String,
-) -> Result<(), AllocError> {
+) -> Result<(), AllocError>
+    ensures { λ r. ⌜ ((line : List ℕ) → kept (now (held .entry)) ≡ take 32 line → made r (λ _. (more : List ℕ) × (string-bytes (now (text .exit)) ≡ string-bytes (now (text .entry)) ++ more) × Replied (line ∷ []) (tables (now (book .entry))) more (tables (now (book .exit))))) ⌝ }
+{
     let reply = answer_line(heap, book, held.bytes())?;
     text.push_str(reply.as_str())?;
-    text.push('\n')
+    text.push_str("\n")?;
+    Ok(())
 }
 
 // The replies to the lines that end in the block. What it begins of the next line is held.
@@ -24,7 +37,9 @@ pub fn answer_block(
     book: &mut Book,
     held: &mut Held,
     block: &[u8],
-) -> Result<String, AllocError> {
+) -> Result<String, AllocError>
+    ensures { λ r. ⌜ ((line : List ℕ) → kept (now (held .entry)) ≡ take 32 line → made r (λ text. Replied (finished line (now (block .entry))) (tables (now (book .entry))) (string-bytes text) (tables (now (book .exit))) × (kept (now (held .exit)) ≡ take 32 (unfinished line (now (block .entry)))))) ⌝ }
+{
     let mut text = String::new(heap);
     let mut at = 0;
     while let Some(used) = fill(held, &block[at..]) {
@@ -36,10 +51,13 @@ pub fn answer_block(
 }
 
 // The reply to the line that ends with the input: none where no byte is left.
-pub fn answer_rest(heap: Global, book: &mut Book, held: &Held) -> Result<String, AllocError> {
+pub fn answer_rest(heap: Global, book: &mut Book, held: &Held) -> Result<String, AllocError>
+    ensures { λ r. ⌜ ((line : List ℕ) → kept (now (held .entry)) ≡ take 32 line → made r (λ text. Replied (last-line line) (tables (now (book .entry))) (string-bytes text) (tables (now (book .exit))))) ⌝ }
+{
     let mut text = String::new(heap);
-    if !held.bytes().is_empty() {
-        put_reply(heap, book, held, &mut text)?;
+    if held.bytes().is_empty() {
+        return Ok(text);
     }
+    put_reply(heap, book, held, &mut text)?;
     Ok(text)
 }

@@ -49,7 +49,6 @@ module _ (m : Memory Slots) (p : Plain Slots) (every : Every-history slots-le m 
       let k = every (c ∷ cs) in
       record { answers-alike = ap tail-of (k .answers-alike); books-agree = k .books-agree; routes-right = k .routes-right }
 
-
   change : (c : Change Slots) → Alike (step c m) (plain-step c p)
   unfolding number-of
   change c = (ap number-of (same (changes c)), after (changes c))

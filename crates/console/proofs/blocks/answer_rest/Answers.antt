@@ -19,18 +19,18 @@ one-line : (line : List ℕ) → (length (take 32 line) ≡ 0 → ⊥) → last-
 one-line [] h = absurd (h refl)
 one-line (b ∷ bs) h = refl
 
-pub returns-then-is-empty : need.returns-then-is-empty
-returns-then-is-empty c = λ line e.
+pub returns-then-is-unbegun : need.returns-then-is-unbegun
+returns-then-is-unbegun c = λ line e.
     let m = tables (c .args .book .now) in
-    let none = eqb-true _ 0 (sym (c .is-empty .ensures) ∙ c .if-is-empty .taken) in
-    let ends = no-line line (ap length (sym e ∙ sym (c .bytes .ensures)) ∙ none) in
+    let none = eqb-true _ 0 (sym (c .is-unbegun .ensures) ∙ c .if-is-unbegun .taken) in
+    let ends = no-line line (ap length (sym e) ∙ none) in
     subst (λ ls. Replied ls m (string-bytes (c .new-text .result)) m) (sym ends) (subst (λ t. Replied [] m t m) (sym (c .new-text .ensures .bytes)) (replied-none m))
 
 pub returns : need.returns
 returns c = λ line e.
     let m = tables (c .args .book .now) in
-    let some = eqb-false _ 0 (sym (c .is-empty .ensures) ∙ c .if-is-empty .left) in
-    let ends = one-line line (λ z. some (ap length (c .bytes .ensures ∙ e) ∙ z)) in
+    let some = eqb-false _ 0 (sym (c .is-unbegun .ensures) ∙ c .if-is-unbegun .left) in
+    let ends = one-line line (λ z. some (ap length e ∙ z)) in
     let more = c .in-Continue-put-reply .ensures tt line e in
     let text : string-bytes (c .put-reply .last .text) ≡ more .0 = more .1 ∙ ap (λ l. l ++ more .0) (c .new-text .ensures .bytes) in
     subst (λ ls. Replied ls m (string-bytes (c .put-reply .last .text)) (tables (c .put-reply .last .book))) (sym ends)

@@ -41,7 +41,7 @@ replied-none m = record { asked = []; asks = tt; replies = refl; book = refl }
 pub replied-one : (line : List ℕ) (q : Reply Command) (m after : Memory Slots) (text : List ℕ) → Parsed line q → text ≡ shown (replied in-memory q m .0) ++ 10 ∷ [] → after ≡ replied in-memory q m .1 → Replied (line ∷ []) m text after
 replied-one line q m after text p e f = record { asked = q ∷ []; asks = (p, tt); replies = e; book = f }
 
-replied-append : (xs ys : List (List ℕ)) (m n o : Memory Slots) (t u : List ℕ) → Replied xs m t n → Replied ys n u o → Replied (xs ++ ys) m (t ++ u) o
+pub replied-append : (xs ys : List (List ℕ)) (m n o : Memory Slots) (t u : List ℕ) → Replied xs m t n → Replied ys n u o → Replied (xs ++ ys) m (t ++ u) o
 replied-append xs ys m n o t u a b = record {
   asked = a .asked ++ b .asked;
   asks = asked-append xs ys (a .asked) (b .asked) (a .asks) (b .asks);

@@ -5,3 +5,4 @@ mod serving;
 pub use blocks::answer_block;
 pub use blocks::answer_rest;
 pub use serving::serve;
+pub use serving::start;

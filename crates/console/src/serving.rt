@@ -1,4 +1,10 @@
 // A whole script, from what reads to what writes.
+ghost use mathlib.Core.Path.{_≡_};
+ghost use mathlib.Core.List.{[]};
+ghost use Rattle.answers.specs.Answers.{tables};
+ghost use Rattle.answers.specs.Scripts.{new-tables};
+ghost use Rattle.input.specs.Filling.{kept};
+ghost use Rattle.console.specs.Sessions.{Every-session};
 use crate::blocks::answer_block;
 use crate::blocks::answer_rest;
 use answers::Book;
@@ -8,11 +14,21 @@ use std::error::AnyError;
 use std::io::Read;
 use std::io::Write;
 
+// An empty book, and no byte of a line. However a script is cut into blocks from here on, it is replied to as on the plain book.
+pub fn start() -> (Book, Held)
+    ensures book { λ r. ⌜ tables (r .0) ≡ new-tables ⌝ }
+    ensures held { λ r. ⌜ kept (r .1) ≡ [] ⌝ }
+    ensures sessions { λ _. ⌜ Every-session ⌝ }
+{
+    let book = Book::new();
+    let held = Held::new();
+    (book, held)
+}
+
 // Reads a script to its end and writes the reply to each line, on a book of its own.
 // However long a line is, no more than a block and the line's first bytes are kept of it.
 pub fn serve<R: Read, W: Write>(heap: Global, input: &mut R, out: &mut W) -> Result<(), AnyError> {
-    let mut book = Book::new();
-    let mut held = Held::new();
+    let (mut book, mut held) = start();
     let mut block = [0u8; 4096];
     for _ in 0..u64::MAX {
         let count = input.read(&mut block)?;

@@ -13,12 +13,15 @@ use Rattle.grammar.specs.declared.words.Command.{Command}
 use Rattle.grammar.specs.Grammar.{Parsed}
 use Rattle.answers.specs.Answers.{Calls, in-memory, plainly, replied, shown}
 
--- the new book in memory: 16 bridges without a line, and 64 free slots over grades of one slot
+-- memory for 16 bridges and 64 lines, with grades of one slot
+abbrev pub blank-tables : Memory Slots
+blank-tables =
+    memory (record { bridges = 0; slots = 0; standing = 0; free = 0 }) (replicate 16 0)
+    (replicate 64 (record { near = 0; far = 0; next = 0; grade = slots-grade 1 }))
+
+-- the new book in it: no bridge has a line, and all slots are free
 abbrev pub new-tables : Memory Slots
-new-tables =
-    fresh 16
-    (memory (record { bridges = 0; slots = 0; standing = 0; free = 0 }) (replicate 16 0)
-    (replicate 64 (record { near = 0; far = 0; next = 0; grade = slots-grade 1 })))
+new-tables = fresh 16 blank-tables
 
 -- what the lines of a script ask, one by one
 abbrev pub Asked : List (List ℕ) → List (Reply Command) → Type 0

@@ -5,4 +5,3 @@ mod serving;
 pub use blocks::answer_block;
 pub use blocks::answer_rest;
 pub use serving::serve;
-pub use serving::start;

@@ -14,8 +14,8 @@ use std::error::AnyError;
 use std::io::Read;
 use std::io::Write;
 
-// An empty book, and no byte of a line. However a script is cut into blocks from here on, it is replied to as on the plain book.
-pub fn start() -> (Book, Held)
+// An empty book, and no byte of a line.
+fn start() -> (Book, Held)
     ensures book { λ r. ⌜ tables (r .0) ≡ new-tables ⌝ }
     ensures held { λ r. ⌜ kept (r .1) ≡ [] ⌝ }
     ensures sessions { λ _. ⌜ Every-session ⌝ }
@@ -25,9 +25,12 @@ pub fn start() -> (Book, Held)
     (book, held)
 }
 
-// Reads a script to its end and writes the reply to each line, on a book of its own.
+// Reads a script to its end and writes the reply to each line, on a book of its own. No contract can say what is read and
+// written; this one says that block by block the replies come to those of the plain book, however the script is cut.
 // However long a line is, no more than a block and the line's first bytes are kept of it.
-pub fn serve<R: Read, W: Write>(heap: Global, input: &mut R, out: &mut W) -> Result<(), AnyError> {
+pub fn serve<R: Read, W: Write>(heap: Global, input: &mut R, out: &mut W) -> Result<(), AnyError>
+    ensures { λ _. ⌜ Every-session ⌝ }
+{
     let (mut book, mut held) = start();
     let mut block = [0u8; 4096];
     for _ in 0..u64::MAX {

@@ -10,9 +10,10 @@ use lib.ListN.{length}
 use Rattle.std.specs.declared.option.Option.{Option}
 use Rattle.std.specs.declared.option.Option.the-variants.{Some, None}
 use Rattle.std.proofs.shelf.Tests.{cond-true, cond-false, eq-eqb, ne-eqb, cases-eq}
-use Rattle.stored.specs.declared.Record.{Record}
+use Rattle.stored.specs.declared.layout.Record.{Record}
 use Rattle.field.specs.Meaning.{nth}
-use Rattle.stored.specs.Stored.{stored-at, record-at, next-in, chain, chained}
+use Rattle.stored.specs.Stored.{stored-at, next-in, chain, chained}
+use Rattle.stored.specs.Marks.{record-at}
 use Rattle.grade.proofs.Replies.{by-cond}
 
 pub some-not-none : {X : Type 0} {x : X} → Some x ≡ None → ⊥

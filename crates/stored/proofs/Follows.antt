@@ -10,9 +10,10 @@ use lib.ListN.{length, getD, set}
 use Rattle.std.specs.declared.option.Option.{Option}
 use Rattle.std.specs.declared.option.Option.the-variants.{Some, None}
 use Rattle.std.proofs.shelf.Tests.{cond-true, cond-false, eq-eqb, ne-eqb, cases-bool, and-parts, and-left, and-right, and-from, and-cases, le-leb, leb-true, both-ways, not-from-true, not-from-false}
-use Rattle.stored.specs.declared.Record.{Record}
+use Rattle.stored.specs.declared.layout.Record.{Record}
 use Rattle.grade.specs.Told.{Reply, answers, refuses}
-use Rattle.stored.specs.Stored.{stored-at, record-at, next-in, follow-marks}
+use Rattle.stored.specs.Stored.{stored-at, next-in}
+use Rattle.stored.specs.Marks.{record-at, follow-marks}
 use Rattle.grade.proofs.Replies.{by-cond}
 use Rattle.stored.proofs.Chains.{names, names-none, some-not-none}
 

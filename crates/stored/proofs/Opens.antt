@@ -15,7 +15,8 @@ use Rattle.grade.specs.declared.slots.Slots.{Slots}
 use Rattle.field.specs.Meaning.{Told}
 use Rattle.grade.specs.Told.{Reply, answers, refuses, and-then}
 use Rattle.theory.specs.Lists.{among}
-use Rattle.stored.specs.Stored.{bridges, records, base-of, head-of, next-in, stored-at, stored-tells, well-shaped, follow, follow-all, follow-marks, follow-all-marks, lowest, unless, wrong-slots, opened}
+use Rattle.stored.specs.Stored.{bridges, records, base-of, head-of, next-in, stored-at, stored-tells, well-shaped, follow, follow-all, lowest, unless, wrong-slots, opened}
+use Rattle.stored.specs.Marks.{follow-marks, follow-all-marks}
 use Rattle.stored.proofs.Lowest.{lowest-same}
 
 -- the marks are those of the records met

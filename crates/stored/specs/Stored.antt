@@ -9,8 +9,8 @@ use Rattle.std.specs.declared.option.Option.{Option}
 use Rattle.std.specs.declared.option.Option.the-variants.{Some, None}
 use Rattle.grade.specs.declared.slots.Slots.{Slots}
 use Rattle.grade.specs.Kinds.{slots-held}
-use Rattle.stored.specs.declared.Record.{Record}
-use Rattle.stored.specs.declared.Chain.{Chain}
+use Rattle.stored.specs.declared.layout.Record.{Record}
+use Rattle.stored.specs.declared.lists.Chain.{Chain}
 use Rattle.field.specs.Meaning.{Told, silent, listed, Entry, nth}
 use Rattle.grade.specs.Told.{Reply, answers, refuses, and-then}
 use Rattle.theory.specs.Lists.{among}
@@ -47,10 +47,6 @@ stored-at bytes base i =
     let at : ℕ = base + 8 * (i - 1) in
     record { far = u16-at bytes at; next = u16-at bytes (at + 2); slots = u32-at bytes (at + 4) }
 
--- the record that an index names, among the r behind a base
-abbrev pub record-at : List ℕ → (base r index : ℕ) → Option Record
-record-at bytes base r index = cond (leb 1 index && leb index r) (Some (stored-at bytes base index)) None
-
 abbrev pub next-in : List ℕ → ℕ → ℕ → ℕ
 next-in bytes base i = stored-at bytes base i .next
 
@@ -79,14 +75,6 @@ list-of bytes b = chained bytes (base-of bytes) (records bytes) (head-of bytes b
 -- a bridge's list is its chain; numbers above n are silent with cause 1
 abbrev pub stored-tells : List ℕ → ℕ → Told Slots
 stored-tells bytes b = cond (has-list bytes b) (listed (map entry-of (list-of bytes b))) (silent 1)
-
--- where a bridge's chain is to be read
-abbrev pub chain-of : List ℕ → ℕ → Option Chain
-chain-of bytes b = cond (has-list bytes b) (Some (record { base = base-of bytes; count = records bytes; first = head-of bytes b })) None
-
--- the k-th record of a bridge's chain, counted from 1
-abbrev pub line-of : List ℕ → (b k : ℕ) → Option Record
-line-of bytes b k = cond (has-list bytes b) (nth (list-of bytes b) k) None
 
 -- follows a chain that may have `left` more records, where `met` were met before; refuses an index above r, one met before, and the 256th in its chain
 unfoldable pub follow : (ℕ → ℕ) → (r left index : ℕ) → List ℕ → Reply (List ℕ)
@@ -137,14 +125,3 @@ chain-end next r (suc left) index = cond (leb 1 index && leb index r) (chain-end
 abbrev pub Ends-by-zero : List ℕ → Type 0
 Ends-by-zero bytes =
     (tells : ℕ → Told Slots) → opened bytes ≡ answers tells → (b : ℕ) → 1 ≤ b → b ≤ bridges bytes → chain-end (next-in bytes (base-of bytes)) (records bytes) 255 (head-of bytes b) ≡ 0
-
--- the same walk along chains with a mark for each record met, in the place of a list of them
-unfoldable pub follow-marks : (ℕ → ℕ) → (r left index : ℕ) → List Bool → Reply (List Bool)
-follow-marks next r zero index marks = cond (eqb index 0) (answers marks) (refuses (14, index, 0))
-follow-marks next r (suc left) index marks =
-    cond (eqb index 0) (answers marks)
-    (cond (leb index r && not (getD marks (index - 1) false)) (follow-marks next r left (next index) (set marks (index - 1) true)) (refuses (14, index, 0)))
-
-abbrev pub follow-all-marks : (ℕ → ℕ) → (ℕ → ℕ) → (r b : ℕ) → List Bool → Reply (List Bool)
-follow-all-marks head next r zero marks = answers marks
-follow-all-marks head next r (suc b) marks = and-then (follow-all-marks head next r b marks) (follow-marks next r 255 (head (suc b)))

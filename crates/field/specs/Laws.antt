@@ -1,16 +1,13 @@
 -- Ring plans tell what a field may tell. Assumes nothing.
-use mathlib.Core.Path.{_≡_, refl, sym, ap, subst, _∙_}
+use mathlib.Core.Path.{_≡_, refl}
 use mathlib.Core.Bool.{Bool, true, false, cond, _&&_}
-use mathlib.Core.List.{List, [], _∷_, map}
-use mathlib.Core.Logic.{_⊎_, inl, inr, ⊎-elim}
-use Prim.Native.Nat.{ℕ, zero, suc, _+_, _-_, _*_, _%_, _^_, _≤_, _<_}
-use native.Mathlib.Nat.{mod-lt}
+use mathlib.Core.List.{[], _∷_}
+use mathlib.Core.Logic.{_⊎_, ⊎-elim}
+use Prim.Native.Nat.{ℕ, _+_, _-_, _^_, _≤_, _<_}
 use native.Mathlib.Omega.{arith}
 use lib.Dec.{eqb, leb}
-use lib.ListN.{length, getD}
-use Rattle.std.proofs.shelf.Lists.{length-map}
-use Rattle.std.proofs.shelf.Tests.{and-parts, leb-true, cases-bool}
-use Rattle.field.specs.Meaning.{Told, silent, listed, Entry, Sound, Lawful}
+use Rattle.std.proofs.shelf.Tests.{and-parts, leb-true}
+use Rattle.field.specs.Meaning.{silent, listed, Sound, Lawful}
 use Rattle.field.specs.Ring.{next-of, before-of, entry, ring-list, ring-tells}
 
 cond-below : (t : Bool) (x y m : ℕ) → x < m → y < m → cond t x y < m

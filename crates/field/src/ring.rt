@@ -1,9 +1,8 @@
 // A plan of bridges in a ring, all lines of one grade.
-ghost use Prim.Native.Nat.{ℕ, _≤_};
+ghost use Prim.Native.Nat.{_≤_};
 ghost use mathlib.Core.Path.{_≡_};
 ghost use mathlib.Core.Bool.{cond, _&&_};
 ghost use lib.Dec.{leb};
-ghost use Rattle.field.specs.Meaning.{Told, Lawful, listing, far-at, grade-at};
 ghost use Rattle.grade.specs.Told.{told, answers, refused};
 ghost use Rattle.field.specs.Ring.{next-of, before-of, ring-tells};
 ghost use Rattle.field.specs.Laws.{ring-lawful};

@@ -1,15 +1,15 @@
 -- In a survey that opens, every chain is ended by zero. Assumes nothing.
-use mathlib.Core.Path.{_≡_, refl, sym, ap, _∙_}
-use mathlib.Core.Bool.{Bool, true, false, cond, not, _&&_}
-use mathlib.Core.List.{List, [], _∷_}
+use mathlib.Core.Path.{_≡_, refl, ap, _∙_}
+use mathlib.Core.Bool.{not, _&&_}
+use mathlib.Core.List.{List, _∷_}
 use mathlib.Core.Logic.{⊎-elim}
-use Prim.Native.Nat.{ℕ, zero, suc, _+_, _≤_, _<_}
+use Prim.Native.Nat.{ℕ, zero, suc, _≤_}
 use native.Mathlib.Omega.{arith}
 use lib.Dec.{eqb, leb}
 use Rattle.std.proofs.shelf.Tests.{cases-eq, eqb-true, eqb-false, and-parts, and-left, and-from, le-leb, lt-leb, cond-true, cond-false}
 use Rattle.grade.specs.Told.{Reply, answers, refuses, and-then}
 use Rattle.theory.specs.Lists.{among}
-use Rattle.stored.specs.Stored.{bridges, records, base-of, head-of, next-in, follow, follow-all, well-shaped, chain-end, opened, Ends-by-zero}
+use Rattle.stored.specs.Stored.{bridges, records, base-of, head-of, next-in, follow, follow-all, well-shaped, chain-end, Ends-by-zero}
 use Rattle.grade.proofs.Replies.{by-cond, refused-not}
 
 follow-ends : (next : ℕ → ℕ) (r left index : ℕ) (met all : List ℕ) → follow next r left index met ≡ answers all → chain-end next r left index ≡ 0

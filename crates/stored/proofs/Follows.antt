@@ -1,18 +1,17 @@
 -- The steps of following chains by marks. Assumes nothing.
-use mathlib.Core.Path.{_≡_, refl, sym, ap, _∙_}
+use mathlib.Core.Path.{_≡_, sym, ap, _∙_}
 use mathlib.Core.Bool.{Bool, true, false, cond, not, _&&_}
-use mathlib.Core.List.{List, [], _∷_}
+use mathlib.Core.List.{List}
 use mathlib.Core.Logic.{⊎-elim}
-use Prim.Native.Nat.{ℕ, zero, suc, _+_, _-_, _≤_, _<_}
+use Prim.Native.Nat.{ℕ, zero, suc, _-_, _<_}
 use native.Mathlib.Omega.{arith}
 use lib.Dec.{eqb, leb}
-use lib.ListN.{length, getD, set}
-use Rattle.std.specs.declared.option.Option.{Option}
+use lib.ListN.{getD, set}
 use Rattle.std.specs.declared.option.Option.the-variants.{Some, None}
-use Rattle.std.proofs.shelf.Tests.{cond-true, cond-false, eq-eqb, ne-eqb, cases-bool, and-parts, and-left, and-right, and-from, and-cases, le-leb, leb-true, both-ways, not-from-true, not-from-false}
+use Rattle.std.proofs.shelf.Tests.{cond-true, cond-false, eq-eqb, ne-eqb, and-parts, and-left, and-right, and-from, and-cases, le-leb, both-ways, not-from-true, not-from-false}
 use Rattle.stored.specs.declared.layout.Record.{Record}
-use Rattle.grade.specs.Told.{Reply, answers, refuses}
-use Rattle.stored.specs.Stored.{stored-at, next-in}
+use Rattle.grade.specs.Told.{answers, refuses}
+use Rattle.stored.specs.Stored.{next-in}
 use Rattle.stored.specs.Marks.{record-at, follow-marks}
 use Rattle.grade.proofs.Replies.{by-cond}
 use Rattle.stored.proofs.Chains.{names, names-none, some-not-none}

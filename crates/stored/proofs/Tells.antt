@@ -14,8 +14,8 @@ use Rattle.grade.specs.declared.slots.Slots.{Slots}
 use Rattle.grade.specs.Kinds.{slots-held}
 use Rattle.stored.specs.declared.layout.Record.{Record}
 use Rattle.stored.specs.declared.lists.Chain.{Chain}
-use Rattle.field.specs.Meaning.{Told, silent, listed, Entry, listing, nth, far-of, far-at, grade-of, grade-at}
-use Rattle.stored.specs.Stored.{stored-at, next-in, chain, chained, entry-of, has-list, list-of, stored-tells}
+use Rattle.field.specs.Meaning.{silent, listed, listing, nth, far-of, far-at, grade-of, grade-at}
+use Rattle.stored.specs.Stored.{next-in, chain, entry-of, has-list, list-of, stored-tells}
 use Rattle.stored.specs.Marks.{chain-of, line-of}
 use Rattle.grade.proofs.Replies.{by-cond}
 use Rattle.stored.proofs.Chains.{some-not-none, some-same}

@@ -1,18 +1,18 @@
 -- Stored surveys tell what a field may tell. Assumes nothing.
-use mathlib.Core.Path.{_≡_, refl, sym, ap, subst, _∙_}
+use mathlib.Core.Path.{_≡_, refl, _∙_}
 use mathlib.Core.Bool.{Bool, true, false, cond, _&&_}
 use mathlib.Core.List.{List, [], _∷_, map}
-use mathlib.Core.Logic.{_⊎_, inl, inr, ⊎-elim}
-use Prim.Native.Nat.{ℕ, zero, suc, _+_, _-_, _*_, _%_, _^_, _≤_, _<_}
+use mathlib.Core.Logic.{_⊎_, ⊎-elim}
+use Prim.Native.Nat.{ℕ, zero, suc, _+_, _-_, _*_, _^_, _≤_, _<_}
 use native.Mathlib.Nat.{mod-lt}
 use native.Mathlib.Omega.{arith}
-use lib.Dec.{eqb, leb}
+use lib.Dec.{leb}
 use lib.ListN.{length, getD}
 use Rattle.std.proofs.shelf.Lists.{length-map}
-use Rattle.std.proofs.shelf.Tests.{and-parts, leb-true, cases-bool}
+use Rattle.std.proofs.shelf.Tests.{and-parts, leb-true}
 use Rattle.theory.specs.Lists.{Each}
-use Rattle.field.specs.Meaning.{Told, silent, listed, Entry, Sound, Lawful}
-use Rattle.stored.specs.Stored.{byte-at, u16-at, bridges, records, base-of, head-of, well-shaped, stored-at, next-in, chain, chained, entry-of, has-list, list-of, stored-tells}
+use Rattle.field.specs.Meaning.{silent, listed, Sound, Lawful}
+use Rattle.stored.specs.Stored.{byte-at, u16-at, bridges, records, base-of, head-of, well-shaped, stored-at, next-in, chain, entry-of, has-list, list-of, stored-tells}
 
 byte-below : (bytes : List ℕ) (at : ℕ) → byte-at bytes at < 256
 byte-below bytes at = mod-lt (getD bytes at 0) (omega arith)

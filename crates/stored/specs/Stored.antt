@@ -1,17 +1,16 @@
 -- A survey stored as little-endian bytes: what it tells, and what is wrong with one that cannot be opened. Assumes nothing.
 use mathlib.Core.Path.{_≡_}
-use mathlib.Core.Bool.{Bool, true, false, cond, not, _&&_, _||_}
-use mathlib.Core.List.{List, [], _∷_, _++_, map}
+use mathlib.Core.Bool.{Bool, cond, not, _&&_}
+use mathlib.Core.List.{List, [], _∷_, map}
 use Prim.Native.Nat.{ℕ, zero, suc, _+_, _-_, _*_, _%_, _≤_}
-use lib.Dec.{eqb, leb, ltb}
-use lib.ListN.{length, getD, set}
+use lib.Dec.{eqb, leb}
+use lib.ListN.{length, getD}
 use Rattle.std.specs.declared.option.Option.{Option}
 use Rattle.std.specs.declared.option.Option.the-variants.{Some, None}
 use Rattle.grade.specs.declared.slots.Slots.{Slots}
 use Rattle.grade.specs.Kinds.{slots-held}
 use Rattle.stored.specs.declared.layout.Record.{Record}
-use Rattle.stored.specs.declared.lists.Chain.{Chain}
-use Rattle.field.specs.Meaning.{Told, silent, listed, Entry, nth}
+use Rattle.field.specs.Meaning.{Told, silent, listed, Entry}
 use Rattle.grade.specs.Told.{Reply, answers, refuses, and-then}
 use Rattle.theory.specs.Lists.{among}
 

@@ -1,15 +1,15 @@
 -- Lines laid one after another keep a book in memory and a plain book in agreement. Assumes nothing.
 use mathlib.Core.Path.{_≡_, refl, sym, ap, subst, _∙_}
-use mathlib.Core.Bool.{Bool, true, false, cond, not, _&&_, _||_}
+use mathlib.Core.Bool.{false, cond, not, _&&_, _||_}
 use mathlib.Core.List.{List, [], _∷_, _++_}
 use mathlib.Core.Logic.{inl, inr, ⊎-elim}
-use mathlib.Core.Option.{Option, none, some}
-use Prim.Native.Nat.{ℕ, zero, suc, _+_, _≤_, _<_}
+use mathlib.Core.Option.{none, some}
+use Prim.Native.Nat.{ℕ, _+_, _≤_}
 use native.Mathlib.Omega.{arith}
-use lib.Dec.{eqb, leb}
+use lib.Dec.{eqb}
 use lib.ListN.{length, length-append}
 use Rattle.std.proofs.shelf.Lists.{length-map}
-use Rattle.std.proofs.shelf.Tests.{cases-eq, cases-bool, eq-eqb, ne-eqb, eqb-true, eqb-false, both-ways, or-cases, or-right, and-parts, and-left, and-right, or-parts, cond-true, cond-false}
+use Rattle.std.proofs.shelf.Tests.{cases-eq, cases-bool, eq-eqb, ne-eqb, eqb-false, and-left, and-right, or-parts, cond-true, cond-false}
 use Rattle.theory.specs.Arcs.{Arc, line}
 use Rattle.theory.specs.Lists.{Distinct, In}
 use Rattle.book.specs.Memory.{Memory}
@@ -19,7 +19,7 @@ use Rattle.plain.specs.Plain.{Plain, Agrees, lay-free, lines-of}
 use Rattle.plain.proofs.Lays.{line-agrees}
 use Rattle.theory.specs.Lists.{among}
 use Rattle.field.specs.Meaning.{Told, Entry, entries}
-use Rattle.survey.specs.Walk.{wrong-far, Found-line, lines-from, Right-list, recorded}
+use Rattle.survey.specs.Walk.{Found-line, lines-from, Right-list, recorded}
 use Rattle.survey.specs.Recording.{lay-all}
 use Rattle.survey.specs.Plain.{plain-lay, plain-lay-all}
 use Rattle.survey.specs.Laying.{Can-lay, Can-lay-all, Can-lay-lists}

@@ -1,12 +1,12 @@
 -- One more bridge noted in working memory. Assumes nothing.
-use mathlib.Core.Path.{_≡_, refl, sym, ap, subst, _∙_}
-use mathlib.Core.Bool.{Bool, true, false, cond}
+use mathlib.Core.Path.{_≡_, sym, ap, subst, _∙_}
+use mathlib.Core.Bool.{false}
 use mathlib.Core.List.{List, [], _∷_, _++_}
 use mathlib.Core.Logic.{⊎-elim, _≢_}
 use Prim.Native.Nat.{ℕ, _+_, _-_, _≤_, _<_}
 use native.Mathlib.Omega.{arith}
 use lib.Dec.{ltb}
-use lib.ListN.{length, getD, take, set, length-set}
+use lib.ListN.{getD, take, set, length-set}
 use Rattle.std.proofs.shelf.Lists.{take-more-set, getD-set-same, getD-set-other, length-take-le}
 use Rattle.std.proofs.shelf.Tests.{cases-eq, le-ltb, cond-true, cond-false}
 use Rattle.theory.specs.Lists.{In, Distinct, among}

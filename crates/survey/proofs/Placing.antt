@@ -1,9 +1,9 @@
 -- The steps by which a survey lays what it found. Assumes nothing.
 use mathlib.Core.Path.{_≡_, refl, sym, ap, subst, _∙_}
-use mathlib.Core.Bool.{Bool, true, false, cond, _&&_}
-use mathlib.Core.List.{List, [], _∷_, _++_}
+use mathlib.Core.Bool.{true, _&&_}
+use mathlib.Core.List.{List, [], _∷_}
 use mathlib.Core.Option.{Option}
-use Prim.Native.Nat.{ℕ, zero, suc, _+_, _-_, _≤_, _<_}
+use Prim.Native.Nat.{ℕ, zero, suc, _+_, _≤_, _<_}
 use native.Mathlib.Omega.{arith}
 use native.Mathlib.Numerals.{add-one}
 use lib.Dec.{eqb, leb}
@@ -12,20 +12,20 @@ use lib.Seq.{drop-cons}
 use Rattle.std.specs.declared.option.Option.the-variants.{Some}
 use Rattle.std.proofs.shelf.Lists.{length-map, getD-take, length-take-le}
 use Rattle.std.proofs.shelf.Tests.{and-parts, eqb-true, leb-true, le-leb, cond-true}
-use Rattle.grade.specs.Told.{Reply, answers, refused}
+use Rattle.grade.specs.Told.{answers}
 use Rattle.book.specs.Memory.{Memory}
-use Rattle.book.specs.Opening.{fresh, within-limits, opening}
+use Rattle.book.specs.Opening.{fresh, within-limits}
 use Rattle.book.specs.Chains.{slots-on}
 use Rattle.book.specs.Lawful.{chain-of, fits-tables, slots-in-order, fars-in-order, lawful}
 use Rattle.lines.specs.Calls.{last-of, placed-behind, with-line}
-use Rattle.plain.specs.Plain.{Plain, Agrees, lines-of, count-from, new-book}
+use Rattle.plain.specs.Plain.{Plain, Agrees, count-from, new-book}
 use Rattle.theory.specs.Arcs.{numbers}
 use Rattle.plain.proofs.Agreement.{agrees-lawful}
 use Rattle.book.proofs.Sizes.{sound}
 use Rattle.plain.proofs.Opened.{opened}
 use Rattle.plain.proofs.Lays.{free-is, last-is}
 use Rattle.field.specs.declared.Listing.the-variants.{Listed}
-use Rattle.field.specs.Meaning.{Told, listed, Entry, listing, entries, far-of, far-at, grade-of, grade-at}
+use Rattle.field.specs.Meaning.{Told, Entry, listing, entries, far-of, far-at, grade-of, grade-at}
 use Rattle.survey.specs.Walk.{Progress, walked, Found-line, lines-from, Right-list, recorded}
 use Rattle.survey.specs.Recording.{lay-all}
 use Rattle.survey.specs.Plain.{plain-lay, plain-lay-all}

@@ -1,6 +1,6 @@
 -- The steps of reading one list, and the stamps of what it told. Assumes nothing.
 use mathlib.Core.Path.{_≡_, refl, sym, ap, subst, _∙_}
-use mathlib.Core.Bool.{Bool, true, false, cond, not, _&&_, _||_}
+use mathlib.Core.Bool.{true, false, cond, not, _&&_, _||_}
 use mathlib.Core.List.{List, [], _∷_}
 use mathlib.Core.Logic.{⊎-elim, _≢_}
 use Prim.Native.Nat.{ℕ, zero, suc, _+_, _-_, _≤_, _<_}
@@ -10,9 +10,9 @@ use lib.ListN.{length, getD, drop, set, length-set}
 use Rattle.std.specs.declared.option.Option.the-variants.{Some, None}
 use Rattle.std.proofs.shelf.Lists.{getD-set-same, getD-set-other}
 use Rattle.std.proofs.shelf.Tests.{cases-bool, cases-eq, eq-eqb, ne-eqb, and-parts, leb-true, lt-ltb, le-ltb, cond-true, cond-false}
-use Rattle.field.specs.declared.Listing.the-variants.{Silent, Listed}
+use Rattle.field.specs.declared.Listing.the-variants.{Listed}
 use Rattle.field.specs.Meaning.{Told, silent, listed, Entry, listing, entries, nth, line-at, far-of, far-at}
-use Rattle.grade.specs.Told.{Reply, answers, refuses}
+use Rattle.grade.specs.Told.{Reply, refuses}
 use Rattle.theory.specs.Lists.{among}
 use Rattle.survey.specs.Walk.{join, wrong-far, Progress, progress, read-list, read-bridge}
 use Rattle.survey.specs.Working.{Stamped, Unstamped}

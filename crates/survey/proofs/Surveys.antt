@@ -1,12 +1,11 @@
 -- What a survey answers on each way. Assumes nothing.
-use mathlib.Core.Path.{_≡_, refl, sym, ap, _∙_}
-use mathlib.Core.Bool.{Bool, true, false, cond, _&&_}
+use mathlib.Core.Path.{_≡_, sym, _∙_}
+use mathlib.Core.Bool.{true, false, cond}
 use mathlib.Core.Logic.{_⊎_, ⊎-elim}
 use Prim.Native.Nat.{ℕ, _+_, _*_, _≤_, _<_}
-use native.Mathlib.Omega.{arith}
 use lib.Dec.{leb}
 use Rattle.std.proofs.shelf.Tests.{cond-true, cond-false, lt-leb, le-leb, and-from, and-left, and-right}
-use Rattle.grade.specs.Told.{Reply, refused}
+use Rattle.grade.specs.Told.{refused}
 use Rattle.book.specs.Memory.{Memory}
 use Rattle.book.specs.Lawful.{lawful}
 use Rattle.book.specs.Admission.{is-bridge, work-needed}

@@ -1,7 +1,6 @@
 -- The steps of a walk from bridge to bridge. Assumes nothing.
 use mathlib.Core.Path.{_≡_, refl, sym, ap, _∙_}
-use mathlib.Core.Bool.{Bool, true, false, cond}
-use mathlib.Core.List.{List, [], _∷_}
+use mathlib.Core.List.{List}
 use Prim.Native.Nat.{ℕ, zero, suc, _+_, _-_, _≤_, _<_}
 use native.Mathlib.Omega.{arith}
 use lib.Dec.{ltb}
@@ -9,7 +8,7 @@ use lib.ListN.{length, getD, take}
 use Rattle.std.proofs.shelf.Lists.{length-take-le, getD-take}
 use Rattle.std.proofs.shelf.Tests.{lt-ltb, le-ltb, cond-true, cond-false}
 use Rattle.field.specs.Meaning.{Told}
-use Rattle.grade.specs.Told.{Reply, answers, refuses, and-then}
+use Rattle.grade.specs.Told.{Reply, answers, and-then}
 use Rattle.survey.specs.Walk.{Progress, progress, read-bridge, walk-on}
 use Rattle.survey.specs.Working.{Found-in, Unstamped}
 

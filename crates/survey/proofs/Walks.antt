@@ -1,8 +1,8 @@
 -- An accepted walk finds the reachable bridges, each once, in the order found. Assumes nothing.
 use mathlib.Core.Path.{_≡_, refl, sym, ap, subst, _∙_}
-use mathlib.Core.Bool.{Bool, true, false, cond, not, _||_}
+use mathlib.Core.Bool.{false, not, _||_}
 use mathlib.Core.List.{List, [], _∷_, _++_, map, append-assoc}
-use mathlib.Core.Logic.{_⊎_, inl, inr, ⊎-elim}
+use mathlib.Core.Logic.{inl, ⊎-elim}
 use Prim.Native.Nat.{ℕ, zero, suc, _+_, _≤_, _<_}
 use native.Mathlib.Omega.{arith}
 use lib.Dec.{eqb, leb, ltb}
@@ -17,7 +17,7 @@ use Rattle.grade.specs.Told.{Reply, answers, refuses, and-then}
 use Rattle.grade.proofs.Replies.{refused-not, answers-same, by-cond}
 use Rattle.book.specs.Admission.{is-bridge}
 use Rattle.field.specs.Meaning.{Told, silent, listed, Entry, entries}
-use Rattle.survey.specs.Walk.{join, wrong-far, Progress, progress, read-list, read-bridge, walk-on, walked, Found-line, lines-from, recorded, fars, join-all, Right-list, Reachable, here, told-by, Complete, Walks-all}
+use Rattle.survey.specs.Walk.{join, wrong-far, Progress, progress, read-list, read-bridge, walk-on, Found-line, lines-from, recorded, fars, join-all, Right-list, Reachable, here, told-by, Walks-all}
 use Rattle.survey.proofs.Members.{in-getD, place-of, join-append}
 
 -- what a far number that can be keeps

@@ -1,7 +1,7 @@
 -- How a survey finds bridges from a start, what it refuses on the way, and which bridges it is to find. Proved: an accepted walk
 -- finds exactly the reachable bridges, each once, in the order found. Assumes nothing.
 use mathlib.Core.Path.{_≡_}
-use mathlib.Core.Bool.{Bool, true, false, cond, not, _||_}
+use mathlib.Core.Bool.{Bool, false, cond, not, _||_}
 use mathlib.Core.List.{List, [], _∷_, _++_, map}
 use Prim.Native.Nat.{ℕ, zero, suc, _+_, _≤_}
 use lib.Dec.{eqb, ltb}

@@ -1,13 +1,12 @@
 // The walk that finds the bridges from a start, and checks all that they tell, before any book is touched.
 ghost use Prim.Native.Nat.{ℕ, _+_, _-_, _≤_, _<_};
-ghost use mathlib.Core.Bool.{Bool, true, false, not, _&&_, _||_};
-ghost use mathlib.Core.List.{List, [], _∷_};
+ghost use mathlib.Core.Bool.{true, not, _&&_, _||_};
 ghost use mathlib.Core.Path.{_≡_};
-ghost use lib.Dec.{eqb, leb, ltb};
+ghost use lib.Dec.{eqb, leb};
 ghost use lib.ListN.{length, getD, take};
 ghost use Rattle.std.specs.Results.{Cases};
-ghost use Rattle.field.specs.Meaning.{listing, far-at};
-ghost use Rattle.survey.specs.Working.{Found-in, Stamped, Unstamped, stands-for};
+ghost use Rattle.field.specs.Meaning.{listing};
+ghost use Rattle.survey.specs.Working.{Found-in, Unstamped, stands-for};
 ghost use Rattle.grade.specs.Told.{told};
 ghost use Rattle.survey.specs.Walk.{join, read-bridge, walked, Walks-all};
 use field::Field;

@@ -1,13 +1,11 @@
-use Prim.Native.Nat.{ℕ, _+_, _<_, _≤_}
-use mathlib.Core.Path.{_≡_, refl, sym, ap, _∙_}
-use mathlib.Core.Bool.{true, false}
+use Prim.Native.Nat.{_+_}
+use mathlib.Core.Path.{refl, sym, ap, _∙_}
 use mathlib.Core.List.{[], _∷_}
 use native.Mathlib.Omega.{arith}
 use lib.ListN.{length, drop}
 use Rattle.std.proofs.shelf.Lists.{drop-all}
-use Rattle.std.specs.declared.option.Option.the-variants.{Some}
-use Rattle.field.specs.Meaning.{Told, entries, listing, far-at}
-use Rattle.survey.specs.Walk.{read-list, wrong-far, progress}
+use Rattle.field.specs.Meaning.{entries, far-at}
+use Rattle.survey.specs.Walk.{read-list, progress}
 use Rattle.survey.specs.Working.{stands-for}
 use Rattle.survey.proofs.Walks.{right-far}
 use Rattle.survey.proofs.Reading.{length-listed, read-listed, some-line, stops-far, stops-full, goes-on, stamps-tell, stamped-none, stamped-more, stamped-done}

@@ -1,9 +1,8 @@
-use Prim.Native.Nat.{_+_, _-_}
-use mathlib.Core.Path.{_≡_, refl, sym, ap, _∙_}
+use Prim.Native.Nat.{_-_}
+use mathlib.Core.Path.{sym, ap, _∙_}
 use native.Mathlib.Omega.{arith}
-use lib.ListN.{length, getD, take}
+use lib.ListN.{getD}
 use Rattle.std.proofs.shelf.Results.{err-from-errBy}
-use Rattle.grade.specs.Told.{answers, refuses, refusal}
 use Rattle.survey.specs.Walk.{read-bridge, walked}
 use Rattle.survey.specs.Working.{stands-for}
 use Rattle.survey.proofs.Walks.{walks-all}

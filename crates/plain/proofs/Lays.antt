@@ -9,13 +9,14 @@ use lib.Dec.{eqb, leb}
 use lib.ListN.{length}
 use Rattle.std.proofs.shelf.Tests.{le-leb, ne-eqb, cond-true, cond-false, and-from}
 use Rattle.theory.specs.Arcs.{Arc, line}
+use Rattle.theory.specs.Chains.{chain}
 use Rattle.grade.specs.Told.{Reply, answers, refused, unless-refused}
 use Rattle.book.specs.Memory.{Memory}
 use Rattle.book.specs.Chains.{slots-on}
 use Rattle.book.specs.Lawful.{nexts, chain-of}
 use Rattle.book.specs.Admission.{is-bridge}
 use Rattle.lines.specs.Calls.{last-of, with-line, laying, line-of}
-use Rattle.plain.specs.Plain.{Plain, Agrees, plain-admission, lay-free, lay-unless, plain-laying, lines-of}
+use Rattle.plain.specs.Plain.{Plain, Agrees, plain-admission, lay-free, lay-unless, plain-laying}
 use Rattle.theory.specs.Arcs.{numbers}
 use Rattle.plain.proofs.Links.{linked-from}
 use Rattle.plain.proofs.Laid.{numbered, of-near}
@@ -70,4 +71,4 @@ module _ {G : Type 0} (m : Memory G) (p : Plain G) (a : Agrees m p) (near far : 
   last-is =
       ap (λ (o : Option (List ℕ)). last-of 0 (slots-on o)) (line-agrees .chains near (joined .near-from) (joined .near-to))
       ∙ ap (last-of 0) (of-near m p a s rest is near far grade joined no-line)
-      ∙ last-push 0 s (numbers (lines-of near (p .lines)))
+      ∙ last-push 0 s (numbers (chain (p .lines) near))

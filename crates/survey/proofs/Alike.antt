@@ -1,13 +1,13 @@
 -- Surveys answer alike on memory and on the plain book, and keep the two in agreement. Assumes nothing.
 use mathlib.Core.Path.{_≡_, refl, sym, ap, subst, _∙_}
-use mathlib.Core.Bool.{Bool, true, cond}
+use mathlib.Core.Bool.{Bool, true, false, cond}
 use mathlib.Core.Logic.{⊎-elim}
 use Prim.Native.Nat.{ℕ, _+_, _*_, _≤_}
 use native.Mathlib.Omega.{arith}
 use lib.Dec.{leb}
 use lib.ListN.{length}
 use Rattle.std.proofs.shelf.Tests.{cond-true, cond-false, cases-bool, and-parts, leb-true}
-use Rattle.grade.specs.Told.{Reply, answers, refuses, refused}
+use Rattle.grade.specs.Told.{Reply, answers, refuses, refused, unless-refused}
 use Rattle.book.specs.Memory.{Memory}
 use Rattle.book.specs.Opening.{fresh}
 use Rattle.book.specs.Lawful.{lawful}
@@ -26,6 +26,10 @@ alike-from : {G : Type 0} {x x′ : Reply ℕ × Memory G} {y y′ : Reply ℕ �
 alike-from {G} {x} {x′} {y} {y′} e f h =
     subst (λ (z : Reply ℕ × Memory G). Alike z y) (sym e) (subst (λ (z : Reply ℕ × Plain G). Alike x′ z) (sym f) h)
 
+enters : {G : Type 0} (b : Bool) (m : Memory G) (go : Reply ℕ × Memory G) → unless-refused {A = Unit {0}} (cond b (answers tt) (refused 2)) m go ≡ cond b go (refused 2, m)
+enters true m go = refl
+enters false m go = refl
+
 module _ {G : Type 0} (tells : ℕ → Told G) (m : Memory G) (p : Plain G) (a : Agrees m p) (work start : ℕ) where
   law : lawful m ≡ true
   law = agrees-lawful m p a
@@ -37,8 +41,9 @@ module _ {G : Type 0} (tells : ℕ → Told G) (m : Memory G) (p : Plain G) (a :
   surveying-is : surveying tells m work start ≡ cond (leb (8 * p .bridges + p .slots) work) (cond (is-bridge (p .bridges) start) (outcome m (p .bridges) (p .slots)) (refused 3, m)) (refused 2, m)
   surveying-is =
       let F : ℕ → ℕ → Bool → Reply ℕ × Memory G = λ n slots legal.
-      cond (leb (8 * n + slots) work) (cond legal (cond (is-bridge n start) (outcome m n slots) (refused 3, m)) (refused 1, m)) (refused 2, m) in
+      unless-refused (cond (leb (8 * n + slots) work) (cond legal (answers tt) (refused 1)) (refused 2)) m (cond (is-bridge n start) (outcome m n slots) (refused 3, m)) in
       ap (λ (n : ℕ). F n (m .head .slots) (lawful m)) (a .bridges) ∙ ap (λ (k : ℕ). F (p .bridges) k (lawful m)) (a .slots) ∙ ap (F (p .bridges) (p .slots)) law
+      ∙ enters (leb (8 * p .bridges + p .slots) work) m (cond (is-bridge (p .bridges) start) (outcome m (p .bridges) (p .slots)) (refused 3, m))
 
   module _ (low : 1 ≤ start) (high : start ≤ p .bridges) where
     recorded-alike : (r : Reply Progress) → walked tells (p .bridges) (p .slots) start ≡ r → Alike (recorded-over tells m r) (plain-recorded-over tells p r)

@@ -11,11 +11,12 @@ use lib.ListN.{length, length-append}
 use Rattle.std.proofs.shelf.Lists.{length-map}
 use Rattle.std.proofs.shelf.Tests.{cases-eq, cases-bool, eq-eqb, ne-eqb, eqb-false, and-left, and-right, or-parts, cond-true, cond-false}
 use Rattle.theory.specs.Arcs.{Arc, line}
+use Rattle.theory.specs.Chains.{chain}
 use Rattle.theory.specs.Lists.{Distinct, In}
 use Rattle.book.specs.Memory.{Memory}
 use Rattle.book.specs.Admission.{is-bridge}
 use Rattle.lines.specs.Calls.{with-line}
-use Rattle.plain.specs.Plain.{Plain, Agrees, lay-free, lines-of}
+use Rattle.plain.specs.Plain.{Plain, Agrees, lay-free}
 use Rattle.plain.proofs.Lays.{line-agrees}
 use Rattle.theory.specs.Lists.{among}
 use Rattle.field.specs.Meaning.{Told, Entry, entries}
@@ -66,16 +67,16 @@ module _ {G : Type 0} where
   can-recorded tells p (b ∷ bs) c = can-append p (lines-from b (entries (tells b))) (recorded tells bs) (c .1) (can-recorded tells (plain-lay-all p (lines-from b (entries (tells b)))) bs (c .2))
 
   -- a bridge with no line has none to any bridge
-  no-lines : (b f : ℕ) (es : List (Arc G)) → lines-of b es ≡ [] → line es b f ≡ none
+  no-lines : (b f : ℕ) (es : List (Arc G)) → chain es b ≡ [] → line es b f ≡ none
   no-lines b f [] h = refl
   no-lines b f (e ∷ es) h =
       let test = eqb (e .near) b && eqb (e .far) f in
       ⊎-elim
-      (λ same. absurd (some-lines (sym (cond-true (eqb (e .near) b) (e ∷ lines-of b es) (lines-of b es) (eq-eqb _ _ same)) ∙ h)))
+      (λ same. absurd (some-lines (sym (cond-true (eqb (e .near) b) (e ∷ chain es b) (chain es b) (eq-eqb _ _ same)) ∙ h)))
       (λ other.
       let t = ne-eqb (e .near) b other in
       cond-false test (some e) (line es b f) (and-left (eqb (e .near) b) (eqb (e .far) f) t)
-      ∙ no-lines b f es (sym (cond-false (eqb (e .near) b) (e ∷ lines-of b es) (lines-of b es) t) ∙ h))
+      ∙ no-lines b f es (sym (cond-false (eqb (e .near) b) (e ∷ chain es b) (chain es b) t) ∙ h))
       (cases-eq (e .near) b)
     where
       some-lines : {x : Arc G} {xs : List (Arc G)} → x ∷ xs ≡ [] → ⊥
@@ -95,7 +96,7 @@ module _ {G : Type 0} where
       some-line q = let z : _≡_ {A = ℕ} 0 1 = cc in omega arith
 
   -- the lines of another bridge stay
-  lines-push : (b : ℕ) (x : Arc G) (es : List (Arc G)) → (x .near ≡ b → ⊥) → lines-of b (es ++ (x ∷ [])) ≡ lines-of b es
+  lines-push : (b : ℕ) (x : Arc G) (es : List (Arc G)) → (x .near ≡ b → ⊥) → chain (es ++ (x ∷ [])) b ≡ chain es b
   lines-push b x [] ne = cond-false (eqb (x .near) b) (x ∷ []) [] (ne-eqb (x .near) b ne)
   lines-push b x (e ∷ es) ne = ap (λ (zs : List (Arc G)). cond (eqb (e .near) b) (e ∷ zs) zs) (lines-push b x es ne)
 
@@ -125,7 +126,7 @@ module _ {G : Type 0} where
   pub record Left (p q : Plain G) (near count : ℕ) : Type 0 where
     pub bridges : q .bridges ≡ p .bridges
     pub free : length (q .free) + count ≡ length (p .free)
-    pub others : (b : ℕ) → (near ≡ b → ⊥) → lines-of b (q .lines) ≡ lines-of b (p .lines)
+    pub others : (b : ℕ) → (near ≡ b → ⊥) → chain (q .lines) b ≡ chain (p .lines) b
 
   left-by : (p : Plain G) (near : ℕ) (es : List (Entry G)) → Can-lay-all p (lines-from near es) → Left p (plain-lay-all p (lines-from near es)) near (length es)
   left-by p near [] c = record { bridges = refl; free = omega arith; others = λ b ne. refl }
@@ -138,14 +139,14 @@ module _ {G : Type 0} where
       record {
         bridges = ih .bridges ∙ ap (λ (x : Plain G). x .bridges) one;
         free = omega (arith, ih .free);
-        others = λ b ne. ih .others b ne ∙ ap (λ (x : Plain G). lines-of b (x .lines)) one
+        others = λ b ne. ih .others b ne ∙ ap (λ (x : Plain G). chain (x .lines) b) one
             ∙ lines-push b (record { number = c .0 .slot; near = near; far = e .far; grade = e .grade }) (p .lines) ne;
       }
 
   -- the lists of bridges that are apart can be laid on a book in which they have no lines
   pub can-lists : (tells : ℕ → Told G) (n : ℕ) (p : Plain G) (order : List ℕ) → p .bridges ≡ n → Distinct order
       → ((b : ℕ) → In b order → (1 ≤ b) × (b ≤ n) × Right-list n b [] (entries (tells b)))
-      → length (recorded tells order) ≤ length (p .free) → ((b : ℕ) → In b order → lines-of b (p .lines) ≡ []) → Can-lay-lists tells p order
+      → length (recorded tells order) ≤ length (p .free) → ((b : ℕ) → In b order → chain (p .lines) b ≡ []) → Can-lay-lists tells p order
   can-lists tells n p [] size apart right room none-yet = tt
   can-lists tells n p (b ∷ bs) size apart right room none-yet =
       let es = entries (tells b) in

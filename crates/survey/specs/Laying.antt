@@ -5,11 +5,12 @@ use mathlib.Core.Option.{none}
 use Prim.Native.Nat.{ℕ, _≤_}
 use lib.ListN.{length}
 use Rattle.theory.specs.Arcs.{Pair, line}
+use Rattle.theory.specs.Chains.{chain}
 use Rattle.book.specs.Memory.{Memory}
 use Rattle.book.specs.Chains.{slots-on}
 use Rattle.book.specs.Lawful.{chain-of}
 use Rattle.lines.specs.Calls.{last-of}
-use Rattle.plain.specs.Plain.{Plain, Agrees, lines-of}
+use Rattle.plain.specs.Plain.{Plain, Agrees}
 use Rattle.field.specs.Meaning.{Told, Entry, entries}
 use Rattle.survey.specs.Walk.{Found-line, lines-from}
 use Rattle.survey.specs.Plain.{plain-lay, plain-lay-all}
@@ -29,7 +30,7 @@ Can-lay-all p (l ∷ ls) = Can-lay p l × Can-lay-all (plain-lay p l) ls
 
 -- bridge b is one of the book's, and has no line
 abbrev pub Bare : {G : Type 0} → Plain G → ℕ → Type 0
-Bare p b = (1 ≤ b) × (b ≤ p .bridges) × (lines-of b (p .lines) ≡ [])
+Bare p b = (1 ≤ b) × (b ≤ p .bridges) × (chain (p .lines) b ≡ [])
 
 -- so each bridge's list in its turn, on a book in which the bridge has no line
 abbrev pub Can-lay-lists : {G : Type 0} → (ℕ → Told G) → Plain G → List ℕ → Type 0

@@ -2,12 +2,10 @@
 use mathlib.Core.Bool.{cond}
 use mathlib.Core.List.{List, [], _∷_}
 use Prim.Native.Nat.{ℕ}
-use lib.Dec.{leb}
-use Rattle.grade.specs.Told.{Reply, answers, refuses, refused}
+use Rattle.grade.specs.Told.{Reply, answers, refuses, refused, unless-refused}
 use Rattle.book.specs.Memory.{Memory}
 use Rattle.book.specs.Opening.{fresh}
-use Rattle.book.specs.Lawful.{lawful}
-use Rattle.book.specs.Admission.{is-bridge, work-needed}
+use Rattle.book.specs.Admission.{is-bridge, book-admission}
 use Rattle.lines.specs.Calls.{with-line}
 use Rattle.field.specs.Meaning.{Told}
 use Rattle.survey.specs.Walk.{Progress, walked, Found-line, recorded}
@@ -25,8 +23,5 @@ recorded-over tells m (answers w) = (answers (w .lines), lay-all (fresh (m .head
 -- a survey from a start, with working memory of `work` numbers
 abbrev pub surveying : {G : Type 0} → (ℕ → Told G) → Memory G → (work start : ℕ) → Reply ℕ × Memory G
 surveying tells m work start =
-    cond (leb (work-needed (m .head)) work)
-    (cond (lawful m)
-    (cond (is-bridge (m .head .bridges) start)
-    (recorded-over tells m (walked tells (m .head .bridges) (m .head .slots) start))
-    (refused 3, m)) (refused 1, m)) (refused 2, m)
+    unless-refused (book-admission m work) m
+    (cond (is-bridge (m .head .bridges) start) (recorded-over tells m (walked tells (m .head .bridges) (m .head .slots) start)) (refused 3, m))

@@ -13,7 +13,7 @@ ghost use Rattle.survey.specs.Walk.{lines-from, recorded, walked, Walks-all};
 use crate::walk::walk;
 use book::Head;
 use book::Line;
-use book::is_lawful;
+use book::admit_book;
 use book::start_afresh;
 use field::Field;
 use field::Listing;
@@ -106,13 +106,8 @@ pub fn survey<F: Field>(
     ensures reachable { λ _. ⌜ (1 ≤ start → start ≤ now (head .entry) .bridges → Walks-all (tells (now (field .entry))) (now (head .entry) .bridges) (now (head .entry) .slots) start) ⌝ }
     ensures same { λ _. ⌜ tells (now (field .exit)) ≡ tells (now (field .entry)) ⌝ }
 {
+    admit_book(head, first, lines, work)?;
     let bridges = head.bridges;
-    if work.len() < 8 * usize::from(bridges) + usize::from(head.slots) {
-        return Err(Refusal::MemoryTooShort);
-    }
-    if !is_lawful(head, first, lines, work) {
-        return Err(Refusal::NotLawful);
-    }
     if start < 1 || start > bridges {
         return Err(Refusal::BridgeOutOfRange);
     }

@@ -1,0 +1,5 @@
+pub mod Labels
+pub mod Chains
+pub mod Marks
+pub mod Choices
+pub mod Ways

@@ -1,0 +1,58 @@
+// The untaken labelled bridge of best label, the lowest number among those alike.
+ghost use mathlib.Core.Path.{_≡_};
+ghost use mathlib.Core.Bool.{not};
+ghost use mathlib.Core.List.{List};
+ghost use Prim.Native.Nat.{ℕ, _<_, _≤_};
+ghost use lib.Dec.{eqb};
+ghost use lib.ListN.{length};
+ghost use Rattle.theory.specs.Search.{best as best-mark};
+ghost use Rattle.search.specs.Labels.{label-of};
+ghost use Rattle.theory.specs.Widest.{label-le};
+ghost use Rattle.search.specs.Marks.{state-of};
+ghost use Rattle.search.specs.Choices.{pick, forget, Choosing};
+use crate::label::label_at_most;
+use crate::label::label_of;
+use crate::table::Choice;
+use book::Line;
+use grade::Grade;
+
+// The better of the choice so far and a bridge with its label's number and its taken mark.
+pub fn choose<G: Grade>(
+    lines: &[Line<G>],
+    bridge: u16,
+    number: u16,
+    taken: u16,
+    so_far: Option<Choice<G>>,
+) -> Option<Choice<G>>
+    ensures { λ r. ⌜ r ≡ pick le bridge (not (eqb taken 0)) (label-of (now (lines .entry)) number) «so_far» ⌝ }
+{
+    if taken != 0 {
+        return so_far;
+    }
+    let Some(label) = label_of(lines, number) else {
+        return so_far;
+    };
+    let Some(choice) = so_far else {
+        return Some(Choice { bridge, label });
+    };
+    if label_at_most(label, choice.label) {
+        Some(choice)
+    } else {
+        Some(Choice { bridge, label })
+    }
+}
+
+// The best among bridges 1 to n.
+pub fn best<G: Grade>(lines: &[Line<G>], labels: &[u16], taken: &[u16], n: u16) -> Option<Choice<G>>
+    requires { ⌜ n < length (now labels) ⌝ ∗ ⌜ n < length (now taken) ⌝ }
+    ensures picks { λ r. ⌜ ((ways : List ℕ) → r ≡ forget (best-mark (label-le le) (state-of (now (lines .entry)) (now (labels .entry)) ways (now (taken .entry))) n)) ⌝ }
+    ensures within { λ r. ⌜ Choosing (now (lines .entry)) (now (labels .entry)) n r ⌝ }
+{
+    let mut chosen = None;
+    for below in 0..n {
+        let bridge = below + 1;
+        let at = bridge as usize;
+        chosen = choose(lines, bridge, labels[at], taken[at], chosen);
+    }
+    chosen
+}

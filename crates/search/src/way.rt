@@ -1,0 +1,32 @@
+// The way in to a bridge, read back from it.
+ghost use mathlib.Core.Path.{_≡_};
+ghost use mathlib.Core.List.{[]};
+ghost use Prim.Native.Nat.{ℕ, _≤_};
+ghost use lib.ListN.{length, drop};
+ghost use Rattle.search.specs.Ways.{back};
+
+// Writes the bridges after `start` on the way in to `end`, in order, at the back of the memory, and tells where they begin.
+pub fn way_back(labels: &[u16], ways: &[u16], start: u16, end: u16, spare: &mut [u16]) -> usize
+    requires { ⌜ length (now ways) ≡ length (now labels) ⌝ }
+    ensures place { λ r. ⌜ r ≤ length (now (spare .exit)) ⌝ }
+    ensures row { λ r. ⌜ drop r (now (spare .exit)) ≡ back (now (labels .entry)) (now (ways .entry)) (length (now (spare .entry))) start end [] ⌝ }
+{
+    let mut at = spare.len();
+    let mut bridge = end;
+    while at > 0 {
+        let place = bridge as usize;
+        if bridge == start {
+            return at;
+        }
+        if place >= labels.len() {
+            return at;
+        }
+        if labels[place] == 0 {
+            return at;
+        }
+        at -= 1;
+        spare[at] = bridge;
+        bridge = ways[place];
+    }
+    at
+}

@@ -1,6 +1,7 @@
 -- Surveys answer alike on memory and on the plain book, and keep the two in agreement. Assumes nothing.
 use mathlib.Core.Path.{_≡_, refl, sym, ap, subst, _∙_}
 use mathlib.Core.Bool.{Bool, true, false, cond}
+use mathlib.Core.List.{List}
 use mathlib.Core.Logic.{⊎-elim}
 use Prim.Native.Nat.{ℕ, _+_, _*_, _≤_}
 use native.Mathlib.Omega.{arith}
@@ -8,6 +9,7 @@ use lib.Dec.{leb}
 use lib.ListN.{length}
 use Rattle.std.proofs.shelf.Tests.{cond-true, cond-false, cases-bool, and-parts, leb-true}
 use Rattle.grade.specs.Told.{Reply, answers, refuses, refused, unless-refused}
+use Rattle.grade.proofs.Replies.{refused-not, answers-same}
 use Rattle.book.specs.Memory.{Memory}
 use Rattle.book.specs.Opening.{fresh}
 use Rattle.book.specs.Lawful.{lawful}
@@ -16,10 +18,11 @@ use Rattle.plain.specs.Plain.{Plain, Agrees, new-book}
 use Rattle.plain.proofs.Agreement.{agrees-lawful}
 use Rattle.plain.proofs.Same.{Alike}
 use Rattle.field.specs.Meaning.{Told}
-use Rattle.survey.specs.Walk.{Progress, walked, recorded}
+use Rattle.survey.specs.Walk.{Progress, walked, recorded, Complete}
 use Rattle.survey.specs.Recording.{lay-all, recorded-over, surveying}
 use Rattle.survey.specs.Plain.{plain-lay-all, plain-recorded-over, plain-surveying}
 use Rattle.survey.proofs.Lays.{all-agree, can-recorded}
+use Rattle.survey.proofs.Walks.{walks-all}
 use Rattle.survey.proofs.Placing.{fresh-agrees, found-can}
 
 alike-from : {G : Type 0} {x x′ : Reply ℕ × Memory G} {y y′ : Reply ℕ × Plain G} → x ≡ x′ → y ≡ y′ → Alike x′ y′ → Alike x y
@@ -78,3 +81,31 @@ module _ {G : Type 0} (tells : ℕ → Told G) (m : Memory G) (p : Plain G) (a :
       (cases-bool (is-bridge n start)))
       (λ short. alike-from (surveying-is ∙ cond-false enough go (refused 2, m) short) (cond-false enough plain-go (refused 2, p) short) (refl, a))
       (cases-bool enough)
+
+-- an accepted survey of the plain book lays the lists of the reachable bridges, in the order found, on a new one
+pub accepted-survey : {G : Type 0} (tells : ℕ → Told G) (p : Plain G) (work start count : ℕ) → plain-surveying tells p work start .0 ≡ answers count
+    → (order : List ℕ) × Complete tells (p .bridges) start order × (count ≡ length (recorded tells order))
+    × (plain-surveying tells p work start .1 ≡ plain-lay-all (new-book (p .bridges) (p .slots)) (recorded tells order))
+accepted-survey {G} tells p work start count accepted = enough (leb (8 * n + p .slots) work) refl accepted
+  where
+    n : ℕ
+    n = p .bridges
+
+    Found : Reply ℕ × Plain G → Type 0
+    Found r =
+        r .0 ≡ answers count → (order : List ℕ) × Complete tells n start order × (count ≡ length (recorded tells order))
+        × (r .1 ≡ plain-lay-all (new-book n (p .slots)) (recorded tells order))
+
+    at-end : (r : Reply Progress) → walked tells n (p .slots) start ≡ r → 1 ≤ start → start ≤ n → Found (plain-recorded-over tells p r)
+    at-end (refuses x) e low high h = absurd (refused-not h)
+    at-end (answers w) e low high h =
+        let all = walks-all tells n (p .slots) start low high w e in
+        (w .found, all .0, sym (answers-same h) ∙ all .1, refl)
+
+    inside : (b : Bool) → is-bridge n start ≡ b → Found (cond b (plain-recorded-over tells p (walked tells n (p .slots) start)) (refused 3, p))
+    inside false e h = absurd (refused-not h)
+    inside true e h = let range = and-parts (leb 1 start) (leb start n) e in at-end (walked tells n (p .slots) start) refl (leb-true 1 start (range .0)) (leb-true start n (range .1)) h
+
+    enough : (b : Bool) → leb (8 * n + p .slots) work ≡ b → Found (cond b (cond (is-bridge n start) (plain-recorded-over tells p (walked tells n (p .slots) start)) (refused 3, p)) (refused 2, p))
+    enough false e h = absurd (refused-not h)
+    enough true e h = inside (is-bridge n start) refl h

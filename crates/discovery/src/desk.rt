@@ -51,8 +51,17 @@ impl<G: Grade> Desk<G> {
     }
 
     // Opens the book and surveys a field from a start bridge. Answers how many lines there are.
-    pub fn survey<F: Field<Kind = G>>(&mut self, field: &mut F, start: u16) -> Result<u16, Refusal> {
-        planner::open(&mut self.head, &mut self.first, &mut self.lines, self.bridges)?;
+    pub fn survey<F: Field<Kind = G>>(
+        &mut self,
+        field: &mut F,
+        start: u16,
+    ) -> Result<u16, Refusal> {
+        planner::open(
+            &mut self.head,
+            &mut self.first,
+            &mut self.lines,
+            self.bridges,
+        )?;
         survey::survey(
             &mut self.head,
             &mut self.first,

@@ -47,7 +47,10 @@ pub impl fmt::Display for Refused as RefusedDisplay {
                 write!(f, "refused {number}, bridge {bridge}, cause {cause}")
             }
             Refusal::BrokenChains { record } => write!(f, "refused {number}, record {record}"),
-            Refusal::WrongGrade { record } => write!(f, "refused {number}, record {record}"),
+            Refusal::WrongGrade { record } if record > 0 => write!(
+                f,
+                "refused {number}, record {record}"
+            ),
             _ => write!(f, "refused {number}"),
         }
     }

@@ -4,23 +4,24 @@ ghost use denote.Ref.{now};
 ghost use Rattle.grade.specs.Told.{told};
 ghost use Rattle.stored.specs.Laws.{stored-lawful};
 ghost use Rattle.stored.specs.Stored.{stored-tells, opened, Ends-by-zero};
+
 mod following;
 mod layout;
 mod lists;
 
+use field::Field;
+use field::Listing;
 use following::follow_chains;
 use following::lowest_unmet;
 use following::lowest_wrong_slots;
+use grade::Refusal;
+use grade::Slots;
+use grade::SlotsGrade;
 use layout::has_shape;
 use layout::u16_at;
 use lists::chain_length;
 use lists::find_chain;
 use lists::find_line;
-use field::Field;
-use field::Listing;
-use grade::Refusal;
-use grade::Slots;
-use grade::SlotsGrade;
 
 // The bytes of a survey that was opened. Whatever they are, they mean something: those out of shape are silent everywhere.
 #[derive(Drop)]

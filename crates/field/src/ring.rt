@@ -19,6 +19,13 @@ pub struct RingPlan<G> {
     ghost most: { size ≤ 256 },
 }
 
+// Whether a bridge is one of the ring's.
+fn in_ring(size: u16, bridge: u16) -> bool
+    ensures { λ r. ⌜ r ≡ (leb 1 bridge && leb bridge size) ⌝ }
+{
+    bridge >= 1 && bridge <= size
+}
+
 // The bridge after this one around the ring.
 fn next_bridge(size: u16, bridge: u16) -> u16
     requires { ⌜ bridge ≤ size ⌝ ∗ ⌜ size ≤ 256 ⌝ }
@@ -55,18 +62,16 @@ pub impl<G: Grade> Field for RingPlan<G> as RingField {
     ghost lawful = { λ p. ring-lawful (p .size) (p .grade) (p .most) };
 
     fn ask_listing(&mut self, bridge: u16) -> Listing {
-        if bridge < 1 || bridge > self.size {
-            return Listing::Silent(1);
-        }
-        if self.size == 2 {
-            Listing::Listed(1)
+        let lines = if self.size == 2 { 1 } else { 2 };
+        if in_ring(self.size, bridge) {
+            Listing::Listed(lines)
         } else {
-            Listing::Listed(2)
+            Listing::Silent(1)
         }
     }
 
     fn ask_far(&mut self, bridge: u16, k: u16) -> Option<u16> {
-        if bridge < 1 || bridge > self.size {
+        if !in_ring(self.size, bridge) {
             return None;
         }
         if k == 1 {
@@ -79,7 +84,7 @@ pub impl<G: Grade> Field for RingPlan<G> as RingField {
     }
 
     fn ask_grade(&mut self, bridge: u16, k: u16) -> Option<G> {
-        if bridge < 1 || bridge > self.size {
+        if !in_ring(self.size, bridge) {
             return None;
         }
         if k == 1 || k == 2 && self.size != 2 {

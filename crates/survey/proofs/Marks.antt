@@ -21,9 +21,6 @@ module _ {n : ℕ} {order marks : List ℕ} {count : ℕ} (far : ℕ) (F : Found
   abbrev found : List ℕ
   found = take count order
 
-  pub join-marked : 0 < getD marks (far - 1) 0 → found ≡ join found far
-  join-marked on = sym (cond-true (among found far) found (found ++ (far ∷ [])) (sym (F .marked far low high) ∙ grind arith))
-
   module _ (off : getD marks (far - 1) 0 ≤ 0) where
     new : among found far ≡ false
     new = sym (F .marked far low high) ∙ le-ltb 0 (getD marks (far - 1) 0) off

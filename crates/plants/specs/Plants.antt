@@ -7,7 +7,7 @@ use Rattle.theory.specs.Lists.{Each}
 use Rattle.theory.specs.Arcs.{Arc, graded}
 use Rattle.theory.specs.Plants.{Plan, ring}
 use Rattle.grade.specs.declared.slots.Slots.{Slots}
-use Rattle.grade.specs.Kinds.{slots-of, slots-held, slots-le}
+use Rattle.grade.specs.Kinds.{slots-of, slots-grade, slots-le}
 use Rattle.grade.specs.Told.{Reply, answers, refuses, and-then}
 use Rattle.book.specs.declared.memory.Head.{Head}
 use Rattle.book.specs.declared.memory.Line.{Line}
@@ -38,7 +38,7 @@ pub data Row : Type 0 where
 
 -- the grade of all lines here
 abbrev pub five : Slots
-five = slots-held 5
+five = slots-grade 5
 
 abbrev pub slot : ℕ → ℕ → ℕ → Line Slots
 slot near far next = record { near = near; far = far; next = next; grade = five }

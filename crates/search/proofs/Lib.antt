@@ -1,8 +1,10 @@
-pub mod Labels
-pub mod Offers
-pub mod Lookups
-pub mod Backward
-pub mod Starting
+pub mod States
 pub mod Choosing
+pub mod Starting
 pub mod Searching
-pub mod Tables
+pub mod Backward
+pub mod Labels
+pub mod Lookups
+pub mod Offers
+pub mod Skipping
+pub mod Holdings

@@ -12,6 +12,7 @@ use Rattle.theory.specs.Lists.{Each, Distinct}
 use Rattle.theory.specs.Arcs.{Arc, line}
 use Rattle.theory.specs.Delivery.{hand-by}
 use Rattle.theory.specs.Widest.{label-le, narrow}
+use Rattle.theory.specs.Margins.{without}
 use Rattle.theory.specs.Search.{Rule, State, search}
 use Rattle.book.specs.declared.memory.Line.{Line}
 use Rattle.theory.specs.declared.labels.Label.{Label}
@@ -53,11 +54,15 @@ Lookup G = ℕ → ℕ → Option (Arc G)
 abbrev pub table-line : {G : Type 0} → ℕ → List ℕ → List (Line G) → Lookup G
 table-line n first lines u v = towards (chain-of n first lines u) v
 
--- what the line from u to v hands on
+-- the same with one line left out, by its number; number 0 leaves out none
+abbrev pub line-but : {G : Type 0} → ℕ → List ℕ → List (Line G) → ℕ → Lookup G
+line-but n first lines skip u v = towards (without (chain-of n first lines u) skip) v
+
+-- what the line from u to v hands on of a widest route's label
 abbrev pub rule-of : {G : Type 0} → (G → G → Bool) → Lookup G → Rule (Label G)
 rule-of le look u v = hand-by (narrow le) (look u v)
 
--- the search from a to z over any way to look lines up
+-- the search for a widest route from a to z over any way to look lines up
 abbrev pub searched : {G : Type 0} → (G → G → Bool) → Lookup G → ℕ → ℕ → ℕ → State (Label G)
 searched le look n a z = search (label-le le) (rule-of le look) n a Unlimited z
 

@@ -4,13 +4,16 @@ use mathlib.Core.List.{List, _∷_}
 use Prim.Native.Nat.{ℕ, zero, suc}
 use lib.Dec.{eqb}
 use lib.ListN.{getD}
+use Rattle.std.specs.declared.option.Option.{Option as Held}
+use Rattle.std.specs.declared.option.Option.the-variants.{Some, None}
+
+-- one step of the way back: it ends at the start (the test) and where there is no label
+abbrev pub back-from : {X : Type 0} → (ℕ → List ℕ → List ℕ) → List ℕ → ℕ → Bool → Held X → ℕ → List ℕ
+back-from go rest v true label way = rest
+back-from go rest v false None way = rest
+back-from go rest v false (Some x) way = go way (v ∷ rest)
 
 -- the way back over the numbers that memory holds
-abbrev pub back-from : (ℕ → List ℕ → List ℕ) → List ℕ → ℕ → Bool → ℕ → ℕ → List ℕ
-back-from go rest v true number way = rest
-back-from go rest v false zero way = rest
-back-from go rest v false (suc number) way = go way (v ∷ rest)
-
-abbrev pub back : List ℕ → List ℕ → ℕ → ℕ → ℕ → List ℕ → List ℕ
-back labels ways zero a v rest = rest
-back labels ways (suc k) a v rest = back-from (back labels ways k a) rest v (eqb v a) (getD labels v 0) (getD ways v 0)
+abbrev pub back : {X : Type 0} → (ℕ → Held X) → List ℕ → List ℕ → ℕ → ℕ → ℕ → List ℕ → List ℕ
+back read labels ways zero a v rest = rest
+back read labels ways (suc k) a v rest = back-from (back read labels ways k a) rest v (eqb v a) (read (getD labels v 0)) (getD ways v 0)

@@ -1,15 +1,9 @@
 // The memory of the search before its first turn.
 ghost use mathlib.Core.Path.{_≡_};
+ghost use mathlib.Core.Bool.{cond};
 ghost use Prim.Native.Nat.{ℕ, _<_};
+ghost use lib.Dec.{eqb};
 ghost use lib.ListN.{length, getD};
-ghost use Rattle.theory.specs.Search.{start as started};
-ghost use Rattle.theory.specs.declared.labels.Label.the-variants.{Unlimited};
-ghost use Rattle.search.specs.Marks.{state-of};
-use book::Line;
-use grade::Grade;
-
-// The number of the start's label: no line has it.
-const START_LABEL: u16 = 65535;
 
 // Writes 0 into each place.
 pub fn clear(memory: &mut [u16])
@@ -20,20 +14,15 @@ pub fn clear(memory: &mut [u16])
     }
 }
 
-// Only the start is labelled, and no bridge is taken.
-pub fn begin<G: Grade>(
-    lines: &[Line<G>],
-    labels: &mut [u16],
-    ways: &mut [u16],
-    taken: &mut [u16],
-    start: u16,
-)
-    requires few { ⌜ length (now lines) < 65535 ⌝ }
-    requires within { ⌜ start < length (now labels) ⌝ }
-    ensures { λ _. ⌜ state-of (now (lines .entry)) (now (labels .exit)) (now (ways .exit)) (now (taken .exit)) ≡ started start Unlimited ⌝ }
+// Only the start is labelled, by the number `top`, and no bridge is taken.
+pub fn begin(labels: &mut [u16], ways: &mut [u16], taken: &mut [u16], start: u16, top: u16)
+    requires { ⌜ start < length (now labels) ⌝ }
+    ensures labels { λ _. ⌜ ((v : ℕ) → getD (now (labels .exit)) v 0 ≡ cond (eqb v start) top 0) ⌝ }
+    ensures ways { λ _. ⌜ ((v : ℕ) → getD (now (ways .exit)) v 0 ≡ 0) ⌝ }
+    ensures taken { λ _. ⌜ ((v : ℕ) → getD (now (taken .exit)) v 0 ≡ 0) ⌝ }
 {
     clear(labels);
     clear(ways);
     clear(taken);
-    labels[start as usize] = START_LABEL;
+    labels[start as usize] = top;
 }

@@ -6,36 +6,31 @@ ghost use Prim.Native.Nat.{ℕ, _<_, _≤_};
 ghost use lib.Dec.{eqb};
 ghost use lib.ListN.{length};
 ghost use Rattle.theory.specs.Search.{best as best-mark};
-ghost use Rattle.search.specs.Labels.{label-of};
-ghost use Rattle.theory.specs.Widest.{label-le};
 ghost use Rattle.search.specs.Marks.{state-of};
 ghost use Rattle.search.specs.Choices.{pick, forget, Choosing};
-use crate::label::label_at_most;
-use crate::label::label_of;
-use crate::table::Choice;
-use book::Line;
-use grade::Grade;
+use crate::choice::Choice;
+use crate::net::Net;
 
 // The better of the choice so far and a bridge with its label's number and its taken mark.
-pub fn choose<G: Grade>(
-    lines: &[Line<G>],
+fn choose<N: Net>(
+    net: &N,
     bridge: u16,
     number: u16,
     taken: u16,
-    so_far: Option<Choice<G>>,
-) -> Option<Choice<G>>
-    ensures { λ r. ⌜ r ≡ pick le bridge (not (eqb taken 0)) (label-of (now (lines .entry)) number) «so_far» ⌝ }
+    so_far: Option<Choice<N::Label>>,
+) -> Option<Choice<N::Label>>
+    ensures { λ r. ⌜ r ≡ pick (N·Net .le) bridge (not (eqb taken 0)) (N·Net .read (now (net .entry)) number) «so_far» ⌝ }
 {
     if taken != 0 {
         return so_far;
     }
-    let Some(label) = label_of(lines, number) else {
+    let Some(label) = net.label_of(number) else {
         return so_far;
     };
     let Some(choice) = so_far else {
         return Some(Choice { bridge, label });
     };
-    if label_at_most(label, choice.label) {
+    if net.at_most(label, choice.label) {
         Some(choice)
     } else {
         Some(Choice { bridge, label })
@@ -43,16 +38,16 @@ pub fn choose<G: Grade>(
 }
 
 // The best among bridges 1 to n.
-pub fn best<G: Grade>(lines: &[Line<G>], labels: &[u16], taken: &[u16], n: u16) -> Option<Choice<G>>
+pub fn best<N: Net>(net: &N, labels: &[u16], taken: &[u16], n: u16) -> Option<Choice<N::Label>>
     requires { ⌜ n < length (now labels) ⌝ ∗ ⌜ n < length (now taken) ⌝ }
-    ensures picks { λ r. ⌜ ((ways : List ℕ) → r ≡ forget (best-mark (label-le le) (state-of (now (lines .entry)) (now (labels .entry)) ways (now (taken .entry))) n)) ⌝ }
-    ensures within { λ r. ⌜ Choosing (now (lines .entry)) (now (labels .entry)) n r ⌝ }
+    ensures picks { λ r. ⌜ ((ways : List ℕ) → r ≡ forget (best-mark (N·Net .le) (state-of (N·Net .read (now (net .entry))) (now (labels .entry)) ways (now (taken .entry))) n)) ⌝ }
+    ensures within { λ r. ⌜ Choosing (N·Net .read (now (net .entry))) (now (labels .entry)) n r ⌝ }
 {
     let mut chosen = None;
     for below in 0..n {
         let bridge = below + 1;
         let at = bridge as usize;
-        chosen = choose(lines, bridge, labels[at], taken[at], chosen);
+        chosen = choose(net, bridge, labels[at], taken[at], chosen);
     }
     chosen
 }

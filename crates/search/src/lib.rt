@@ -1,16 +1,22 @@
-// The search over a book's tables in working memory, for every kind of grade. An inner layer: the published questions
-// check the book and the lengths of memory before they call it.
+// The search over any net of lines in working memory, and a book's tables as such a net. An inner layer: the published
+// questions check the book and the lengths of memory before they call it.
 mod begin;
 mod best;
 mod chain;
+mod choice;
 mod label;
+mod net;
 mod offer;
-mod table;
+mod tables;
 mod turns;
 mod way;
 
 pub use chain::number_between;
 pub use label::label_at_most;
 pub use label::label_of;
+pub use net::Net;
+pub use tables::Tables;
+pub use tables::TablesNet;
+pub use tables::search_widest;
 pub use turns::run_search;
 pub use way::way_back;

@@ -11,7 +11,7 @@ use Rattle.std.specs.declared.option.Option.the-variants.{Some, None}
 use Rattle.std.proofs.shelf.Lists.{length-map}
 use Rattle.field.specs.declared.Listing.the-variants.{Listed}
 use Rattle.grade.specs.declared.slots.Slots.{Slots}
-use Rattle.grade.specs.Kinds.{slots-held}
+use Rattle.grade.specs.Kinds.{slots-grade}
 use Rattle.stored.specs.declared.layout.Record.{Record}
 use Rattle.stored.specs.declared.lists.Chain.{Chain}
 use Rattle.field.specs.Meaning.{silent, listed, listing, nth, far-of, far-at, grade-of, grade-at}
@@ -38,7 +38,7 @@ far-of-read None = refl
 far-of-read (Some rec) = refl
 
 abbrev pub slots-of : Record → Slots
-slots-of rec = slots-held (rec .slots)
+slots-of rec = slots-grade (rec .slots)
 
 grade-of-read : (o : Option Record) → grade-of (read entry-of o) ≡ read slots-of o
 grade-of-read None = refl

@@ -8,7 +8,7 @@ use lib.ListN.{length, getD}
 use Rattle.std.specs.declared.option.Option.{Option}
 use Rattle.std.specs.declared.option.Option.the-variants.{Some, None}
 use Rattle.grade.specs.declared.slots.Slots.{Slots}
-use Rattle.grade.specs.Kinds.{slots-held}
+use Rattle.grade.specs.Kinds.{slots-grade}
 use Rattle.stored.specs.declared.layout.Record.{Record}
 use Rattle.field.specs.Meaning.{Told, silent, listed, Entry}
 use Rattle.grade.specs.Told.{Reply, answers, refuses, and-then}
@@ -62,7 +62,7 @@ abbrev pub chained : List ℕ → (base r index : ℕ) → List Record
 chained bytes base r index = map (stored-at bytes base) (chain (next-in bytes base) r 255 index)
 
 abbrev pub entry-of : Record → Entry Slots
-entry-of rec = record { far = rec .far; grade = slots-held (rec .slots) }
+entry-of rec = record { far = rec .far; grade = slots-grade (rec .slots) }
 
 -- whether a bridge has a list: it is one of 1 to n. (Bytes out of shape, which nobody can open, have none.)
 abbrev pub has-list : List ℕ → ℕ → Bool

@@ -4,7 +4,6 @@ use mathlib.Core.List.{[]}
 use Prim.Native.Nat.{ℕ, suc, _+_}
 use native.Mathlib.Numerals.{add-one}
 use lib.ListN.{getD}
-use Rattle.search.specs.Labels.{label-of}
 use Rattle.search.specs.Marks.{takens}
 use Rattle.search.specs.Choices.{pick, Choosing}
 use Rattle.search.proofs.Choosing.{best-more, pick-chosen}
@@ -15,15 +14,15 @@ loop-below-holds g c = ((λ ways. refl), tt)
 
 pub loop-below-again : need.loop-below-again
 loop-below-again g c =
-    let le = g .G·Grade .le in
-    let lines = c .args .lines .now in
+    let le = g .N·Net .le in
+    let read = g .N·Net .read (c .args .net .now) in
     let labels = c .args .labels .now in
     let taken = c .args .taken .now in
     let k = c .loop-below .below in
     let step = rw add-one at (c .choose-chosen .ensures) in
     rw add-one (
-      (λ ways. step ∙ ap (pick le (suc k) (takens taken (suc k)) (label-of lines (getD labels (suc k) 0))) (c .loop-below .inv .0 ways) ∙ sym (best-more le lines labels taken ways k)),
-      rw step (pick-chosen le lines labels taken [] k (takens taken (suc k)) (label-of lines (getD labels (suc k) 0)) (c .loop-below .chosen) refl (c .loop-below .inv .1)),
+      (λ ways. step ∙ ap (pick le (suc k) (takens taken (suc k)) (read (getD labels (suc k) 0))) (c .loop-below .inv .0 ways) ∙ sym (best-more le read labels taken ways k)),
+      rw step (pick-chosen le read labels taken [] k (takens taken (suc k)) (read (getD labels (suc k) 0)) (c .loop-below .chosen) refl (c .loop-below .inv .1)),
     )
 
 pub returns : need.returns

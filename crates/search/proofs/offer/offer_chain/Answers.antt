@@ -3,9 +3,14 @@ use Prim.Native.Nat.{ℕ, suc, _+_, _-_, _<_}
 use native.Mathlib.Omega.{arith}
 use lib.ListN.{length}
 use Rattle.std.specs.declared.option.Option.the-variants.{Some, None}
+use Rattle.theory.specs.Widest.{label-le, narrow}
+use Rattle.theory.specs.Margins.{without}
+use Rattle.standing.specs.Standing.{arc}
+use Rattle.search.specs.Labels.{label-of}
 use Rattle.search.specs.Chains.{chain}
-use Rattle.search.specs.Marks.{offered-all}
+use Rattle.search.specs.Marks.{marks, offered-all}
 use Rattle.search.proofs.Offers.{chain-more}
+use Rattle.search.proofs.Skipping.{offered-split}
 use Rattle.search.proofs.offer.offer_chain.Needs as need
 
 pub loop-step-holds : need.loop-step-holds
@@ -19,7 +24,16 @@ loop-step-again g c =
     let k : ℕ = length lines - (c .loop-step .-step + 1) in
     let more : length lines - c .loop-step .-step ≡ suc k = omega arith in
     let here = rw (more, chain-more lines k (c .loop-step .slot) (Some (c .in-Some .line)) (c .in-Some .ensures tt)) at (c .loop-step .inv) in
-    (ap (offered-all (g .G·Grade .le) (c .args .from) (c .args .held .label) (chain lines k (c .in-Some .line .next))) (c .offer-line .ensures) ∙ here .0, here .1 .1)
+    let le = g .G·Grade .le in
+    let x = c .args .held .label in
+    let skip = c .args .skip in
+    let line = c .in-Some .line in
+    let rest = chain lines k (line .next) in (
+      ap (offered-all (label-le le) (narrow le) (c .args .from) x (without rest skip)) (c .offer-unless .ensures)
+          ∙ sym (offered-split (label-le le) (narrow le) (c .args .from) x skip (arc (c .loop-step .slot) line) rest (marks (label-of lines) (c .loop-step .labels) (c .loop-step .ways)))
+          ∙ here .0,
+      here .1 .1,
+    )
 
 pub returns : need.returns
 returns g c =
@@ -33,8 +47,8 @@ returns-in-rest g c =
     let more : length lines - c .loop-step .-step ≡ suc k = omega arith in
     rw (more, chain-more lines k (c .loop-step .slot) None (c .in-rest .ensures tt)) at (c .loop-step .inv .0)
 
-pub offer-line-requires : need.offer-line-requires
-offer-line-requires g c κs =
+pub offer-unless-requires : need.offer-unless-requires
+offer-unless-requires g c κs =
     let lines = c .args .lines .now in
     let k : ℕ = length lines - (c .loop-step .-step + 1) in
     let more : length lines - c .loop-step .-step ≡ suc k = omega arith in

@@ -4,10 +4,8 @@ use native.Mathlib.Omega.{arith}
 use borrow.Author.Tests.{eq-eqb, ne-eqb}
 use lib.ListN.{set}
 use Rattle.theory.specs.Search.{search-from}
-use Rattle.theory.specs.Widest.{label-le}
-use Rattle.search.specs.Chains.{table-line, rule-of}
 use Rattle.search.specs.Marks.{state-of, takens}
-use Rattle.search.proofs.Offers.{state-path, taken-set}
+use Rattle.search.proofs.States.{state-path, taken-set}
 use Rattle.search.proofs.Searching.{turn-none, turn-end, turn-on}
 use Rattle.search.proofs.turns.run_turns.Needs as need
 
@@ -18,15 +16,15 @@ loop-turn-holds g c =
 
 pub loop-turn-again : need.loop-turn-again
 loop-turn-again g c =
-    let le = g .G·Grade .le in
-    let lines = c .args .lines .now in
-    let rule = rule-of le (table-line (c .args .n) (c .args .first .now) lines) in
+    let le = g .N·Net .le in
+    let read = g .N·Net .read (c .args .net .now) in
+    let rule = g .N·Net .rule (c .args .net .now) in
     let ways = c .loop-turn .ways in
-    let s = state-of lines (c .loop-turn .labels) ways (c .loop-turn .taken) in
+    let s = state-of read (c .loop-turn .labels) ways (c .loop-turn .taken) in
     let k : ℕ = c .args .n - (c .loop-turn .-turn + 1) in
     let more : c .args .n - c .loop-turn .-turn ≡ suc k = omega arith in
-    ap (search-from (label-le le) rule (c .args .n) (c .args .end) k) (c .take-bridge .ensures)
-    ∙ sym (turn-on le rule (c .args .n) (c .args .end) s k (c .in-Some .choice) (c .in-Some .ensures tt .picks ways) (ne-eqb _ _ (c .if-choice-end .left)))
+    ap (search-from le rule (c .args .n) (c .args .end) k) (c .take-bridge .ensures)
+    ∙ sym (turn-on le rule (c .args .n) (c .args .end) s k (c .in-Some .choice) (c .in-Some .ensures tt .picks ways) (ne-eqb _ _ (c .if-is-end .left)))
     ∙ (rw more at (c .loop-turn .inv))
 
 pub returns : need.returns
@@ -36,25 +34,27 @@ returns g c =
 
 pub returns-in-rest : need.returns-in-rest
 returns-in-rest g c =
-    let le = g .G·Grade .le in
-    let lines = c .args .lines .now in
+    let le = g .N·Net .le in
+    let read = g .N·Net .read (c .args .net .now) in
+    let rule = g .N·Net .rule (c .args .net .now) in
     let ways = c .loop-turn .ways in
-    let s = state-of lines (c .loop-turn .labels) ways (c .loop-turn .taken) in
+    let s = state-of read (c .loop-turn .labels) ways (c .loop-turn .taken) in
     let k : ℕ = c .args .n - (c .loop-turn .-turn + 1) in
     let more : c .args .n - c .loop-turn .-turn ≡ suc k = omega arith in
-    sym (turn-none le (rule-of le (table-line (c .args .n) (c .args .first .now) lines)) (c .args .n) (c .args .end) s k (c .in-rest .ensures tt .picks ways))
+    sym (turn-none le rule (c .args .n) (c .args .end) s k (c .in-rest .ensures tt .picks ways))
     ∙ (rw more at (c .loop-turn .inv))
 
-pub returns-then-choice-end : need.returns-then-choice-end
-returns-then-choice-end g c =
-    let le = g .G·Grade .le in
-    let lines = c .args .lines .now in
+pub returns-then-is-end : need.returns-then-is-end
+returns-then-is-end g c =
+    let le = g .N·Net .le in
+    let read = g .N·Net .read (c .args .net .now) in
+    let rule = g .N·Net .rule (c .args .net .now) in
     let ways = c .loop-turn .ways in
     let taken = c .loop-turn .taken in
-    let s = state-of lines (c .loop-turn .labels) ways taken in
+    let s = state-of read (c .loop-turn .labels) ways taken in
     let k : ℕ = c .args .n - (c .loop-turn .-turn + 1) in
     let more : c .args .n - c .loop-turn .-turn ≡ suc k = omega arith in
     let chosen = c .in-Some .ensures tt in
-    state-path refl (ap (λ u. takens (set taken u 1)) (c .if-choice-end .taken) ∙ taken-set taken (c .args .end) (omega (arith, chosen .within)))
-    ∙ sym (turn-end le (rule-of le (table-line (c .args .n) (c .args .first .now) lines)) (c .args .n) (c .args .end) s k (c .in-Some .choice) (chosen .picks ways) (eq-eqb _ _ (c .if-choice-end .taken)))
+    state-path refl (ap (λ u. takens (set taken u 1)) (c .if-is-end .taken) ∙ taken-set taken (c .args .end) (omega (arith, chosen .within)))
+    ∙ sym (turn-end le rule (c .args .n) (c .args .end) s k (c .in-Some .choice) (chosen .picks ways) (eq-eqb _ _ (c .if-is-end .taken)))
     ∙ (rw more at (c .loop-turn .inv))

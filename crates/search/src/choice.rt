@@ -1,0 +1,6 @@
+// A bridge with its label.
+#[derive(Clone, Copy)]
+pub struct Choice<L> {
+    pub bridge: u16,
+    pub label: L,
+}

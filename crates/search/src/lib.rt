@@ -10,6 +10,7 @@ mod offer;
 mod tables;
 mod turns;
 mod way;
+mod width;
 
 pub use chain::number_between;
 pub use label::label_at_most;
@@ -26,3 +27,6 @@ pub use tables::search_widest;
 pub use turns::run_search;
 pub use way::put_number;
 pub use way::way_back;
+pub use width::best_width;
+pub use width::width_at;
+pub use width::width_told;

@@ -31,7 +31,7 @@ pub struct Numbered<G> {
 }
 
 // What a line of this number and grade hands on of a label: the lower of the two, the label where they rank alike.
-pub fn hand_down<G: Grade>(held: Numbered<G>, number: u16, grade: G) -> Numbered<G>
+fn hand_down<G: Grade>(held: Numbered<G>, number: u16, grade: G) -> Numbered<G>
     ensures label { λ r. ⌜ r .label ≡ lower (label-le le) (held .label) (Limited grade) ⌝ }
     ensures number { λ r. ⌜ ((read : ℕ → Held (Reached G)) → read (held .number) ≡ Some (held .label) → read number ≡ Some (Limited grade) → read (r .number) ≡ Some (r .label)) ⌝ }
 {
@@ -54,7 +54,7 @@ fn improves<G: Grade>(label: Label<G>, own: Option<Label<G>>) -> bool
 }
 
 // A bridge offers another one a label: it is written, with the way in, where it is better than the other's own.
-pub fn offer_label<G: Grade>(
+fn offer_label<G: Grade>(
     labels: &mut [u16],
     ways: &mut [u16],
     from: u16,

@@ -17,6 +17,7 @@ pub use label::label_at_most;
 pub use label::label_of;
 pub use label::record_at;
 pub use net::Net;
+pub use tables::START_LABEL;
 pub use tables::Tables;
 pub use tables::TablesNet;
 pub use tables::search_widest;

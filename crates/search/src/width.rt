@@ -19,7 +19,7 @@ use grade::Grade;
 use theory::labels::Label;
 
 // The width that the end's label tells, by the end's taken mark: none where the search did not come there.
-pub fn width_told<G: Grade>(label: Option<Label<G>>, taken: u16) -> Option<G>
+pub fn width_told<G: Copy>(label: Option<Label<G>>, taken: u16) -> Option<G>
     ensures { λ r. ⌜ r ≡ width-in (not (eqb taken 0)) label ⌝ }
 {
     if taken == 0 {

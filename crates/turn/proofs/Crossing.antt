@@ -265,15 +265,15 @@ module _ (n : ℕ) (lines : List Row) (partners : List ℕ) (sound : Paired n li
         by l (inr p) = net-flip lines (l .near) (l .far) ∙ (λ k. both-ways lines (p .0 k) (p .1 k))
 
     -- a standing line that touches u is found across
+    record-found : (v k : ℕ) (l : Row) → line-at lines k ≡ Some l → other-end l u ≡ Some v → towards across v ≡ none → ⊥
+    record-found v zero l there end z = absent there
+    record-found v (suc k) l there end z = let c = crossings-in lines partners u 0 lines k l v there end in towards-found across v (c .0) (c .1) (c .2) z
+
     near-found : (v : ℕ) (e : Arc Slots) → line (arcs lines) u v ≡ some e → towards across v ≡ none → ⊥
     near-found v e s z =
         let t = line-in (arcs lines) u v e s in
         let r = standing-in lines e (t .0) in
-        at (e .number) (r .line) (r .there) (end-far (r .line) u v (r .laid) (sym (ap (λ (x : Arc Slots). x .near) (r .is)) ∙ t .1) (sym (ap (λ (x : Arc Slots). x .far) (r .is)) ∙ t .2))
-      where
-        at : (k : ℕ) (l : Row) → line-at lines k ≡ Some l → other-end l u ≡ Some v → ⊥
-        at zero l there end = absent there
-        at (suc k) l there end = let c = crossings-in lines partners u 0 lines k l v there end in towards-found across v (c .0) (c .1) (c .2) z
+        record-found v (e .number) (r .line) (r .there) (end-far (r .line) u v (r .laid) (sym (ap (λ (x : Arc Slots). x .near) (r .is)) ∙ t .1) (sym (ap (λ (x : Arc Slots). x .far) (r .is)) ∙ t .2)) z
 
     far-found : (v : ℕ) (e : Arc Slots) → line (arcs lines) v u ≡ some e → towards across v ≡ none → ⊥
     far-found v e s z =
@@ -282,11 +282,7 @@ module _ (n : ℕ) (lines : List Row) (partners : List ℕ) (sound : Paired n li
         let near : r .line .near ≡ v = sym (ap (λ (x : Arc Slots). x .near) (r .is)) ∙ t .1 in
         let far : r .line .far ≡ u = sym (ap (λ (x : Arc Slots). x .far) (r .is)) ∙ t .2 in
         let apart = each-at (Proper n) (arcs lines) (sound .standing .within) e (t .0) .differ in
-        at (e .number) (r .line) (r .there) (end-near (r .line) u v (r .laid) (λ same. apart (t .1 ∙ sym near ∙ same ∙ sym (t .2))) far near)
-      where
-        at : (k : ℕ) (l : Row) → line-at lines k ≡ Some l → other-end l u ≡ Some v → ⊥
-        at zero l there end = absent there
-        at (suc k) l there end = let c = crossings-in lines partners u 0 lines k l v there end in towards-found across v (c .0) (c .1) (c .2) z
+        record-found v (e .number) (r .line) (r .there) (end-near (r .line) u v (r .laid) (λ same. apart (t .1 ∙ sym near ∙ same ∙ sym (t .2))) far near) z
 
     none-across : (v : ℕ) → towards across v ≡ none → both-ways lines u v ≡ 0
     none-across v z = go (line (arcs lines) u v) refl (line (arcs lines) v u) refl

@@ -3,6 +3,7 @@ mod doubled;
 mod pairs;
 mod told;
 mod total;
+mod way;
 
 pub use told::Turned;
 pub use total::load;

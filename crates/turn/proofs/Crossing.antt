@@ -177,7 +177,7 @@ module _ (lines : List Row) (partners : List ℕ) (u : ℕ) where
       behind e (Some w) i = inr i
 
 -- a line read as slots
-abbrev to-slots : Option (Arc Slots) → Option (Arc ℕ)
+abbrev pub to-slots : Option (Arc Slots) → Option (Arc ℕ)
 to-slots none = none
 to-slots (some e) = some (at-grade (λ x. slots-of (x .grade)) e)
 

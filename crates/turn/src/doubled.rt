@@ -4,7 +4,6 @@ ghost use mathlib.Core.Path.{_≡_};
 ghost use Prim.Native.Nat.{ℕ, _+_, _<_, _≤_};
 ghost use lib.Dec.{leb};
 ghost use Rattle.std.specs.Finite.{nth};
-
 ghost use lib.ListN.{length, getD};
 ghost use Rattle.std.specs.declared.option.Option.{Option as Maybe};
 ghost use Rattle.std.specs.declared.option.Option.the-variants.{Some};
@@ -169,13 +168,7 @@ fn offer_across(
 }
 
 // A bridge makes its offers over all lines of the table, one after another.
-fn offer_all(
-    net: &Doubled<'_>,
-    labels: &mut [u16],
-    ways: &mut [u16],
-    from: u16,
-    held: Held,
-)
+fn offer_all(net: &Doubled<'_>, labels: &mut [u16], ways: &mut [u16], from: u16, held: Held)
     requires held { ⌜ pair-label-of (now (now net .lines)) (now (now net .partners)) (held .number) ≡ Some (held .label) ⌝ }
     requires few { ⌜ length (now (now net .lines)) ≤ 1024 ⌝ }
     requires within { ⌜ ((line : Row) (at v : ℕ) → nth (now (now net .lines)) at ≡ Some line → other-end line from ≡ Some v → v < length (now labels)) ⌝ }

@@ -1,12 +1,6 @@
 // A book with memory of its own.
-ghost use Prim.Native.Nat.{_+_, _*_};
 ghost use mathlib.Core.Path.{_≡_};
-ghost use Rattle.std.specs.Of.Vec.{vec-items, vec-len};
-ghost use Rattle.std.specs.Vec.{made};
-ghost use Rattle.grade.specs.Told.{told};
-ghost use Rattle.book.specs.Memory.{memory};
-ghost use Rattle.route.specs.Routing.{routing};
-ghost use Rattle.discovery.specs.Anew.{surveyed-anew};
+ghost use Rattle.std.specs.Of.Vec.{vec-items};
 use book::Head;
 use book::Line;
 use field::Field;
@@ -30,9 +24,7 @@ pub struct Desk<G> {
 
 impl<G: Grade> Desk<G> {
     // Memory for `bridges` bridges and `slots` lines. Every line slot holds `blank` until a line is laid in it.
-    pub fn new(heap: Global, bridges: u16, slots: u16, blank: G) -> Result<Desk<G>, AllocError>
-        ensures { λ r. ⌜ made r (λ d. (d .bridges ≡ bridges) × (vec-len (d .lines) ≡ slots) × (vec-len (d .work) ≡ 8 * bridges + slots)) ⌝ }
-    {
+    pub fn new(heap: Global, bridges: u16, slots: u16, blank: G) -> Result<Desk<G>, AllocError> {
         let empty = Line {
             near: 0,
             far: 0,
@@ -65,9 +57,7 @@ impl<G: Grade> Desk<G> {
         &mut self,
         field: &mut F,
         start: u16,
-    ) -> Result<u16, Refusal>
-        ensures { λ r. ⌜ (told (λ count. count) r, memory (now (self .exit) .head) (vec-items (now (self .exit) .first)) (vec-items (now (self .exit) .lines))) ≡ surveyed-anew (tells (now (field .entry))) (memory (now (self .entry) .head) (vec-items (now (self .entry) .first)) (vec-items (now (self .entry) .lines))) (now (self .entry) .bridges) (vec-len (now (self .entry) .work)) start ⌝ }
-    {
+    ) -> Result<u16, Refusal> {
         planner::open(
             &mut self.head,
             &mut self.first,
@@ -92,9 +82,7 @@ impl<G: Grade> Desk<G> {
     }
 
     // Asks for the widest route between two bridges.
-    pub fn route(&mut self, from: u16, to: u16) -> Result<Found<G>, Refusal>
-        ensures { λ r. ⌜ (told (λ found. found) r, (vec-items (now (self .exit) .numbers), vec-items (now (self .exit) .side))) ≡ routing le (memory (now (self .entry) .head) (vec-items (now (self .entry) .first)) (vec-items (now (self .entry) .lines))) (vec-len (now (self .entry) .work)) «from» to (vec-items (now (self .entry) .numbers)) (vec-items (now (self .entry) .side)) ⌝ }
-    {
+    pub fn route(&mut self, from: u16, to: u16) -> Result<Found<G>, Refusal> {
         route::route(
             &self.head,
             &self.first,

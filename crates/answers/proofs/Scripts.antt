@@ -9,7 +9,7 @@ use Rattle.book.specs.Memory.{Memory}
 use Rattle.plain.specs.Plain.{Plain, Agrees}
 use Rattle.plain.specs.Histories.{Call as Change, lays, regrades, lifts, step, plain-step}
 use Rattle.route.specs.Routing.{Routed}
-use Rattle.planner.specs.Promise.{Call, changes, routes, Answer, line-number, route-told, call, plain-call, run, Every-history}
+use Rattle.planner.specs.Promise.{Call, changes, routes, Answer, line-number, line-count, route-told, call, plain-call, run, Every-history}
 use Rattle.grammar.specs.declared.words.Command.{Command}
 use Rattle.grammar.specs.declared.words.Command.the-variants.{Lay, Regrade, Lift, Route, Margins, Turn}
 use Rattle.answers.specs.Answers.{in-memory, plainly, blank, bridge-of, numbered, routed, obeyed, replied, shown}
@@ -27,10 +27,12 @@ tail-of (x ∷ xs) = xs
 
 number-of : Answer Slots → Reply ℕ
 number-of (line-number r) = r
+number-of (line-count r) = r
 number-of (route-told r) = refused 0
 
 told-of : Answer Slots → Routed Slots
 told-of (line-number r) = (refused 0, ([], []))
+told-of (line-count r) = (refused 0, ([], []))
 told-of (route-told r) = r
 
 -- the same reply, and every history after it is alike
@@ -47,7 +49,7 @@ module _ (m : Memory Slots) (p : Plain Slots) (every : Every-history slots-le m 
   unfolding tail-of
   after c cs =
       let k = every (c ∷ cs) in
-      record { answers-alike = ap tail-of (k .answers-alike); books-agree = k .books-agree; routes-right = k .routes-right }
+      record { answers-alike = ap tail-of (k .answers-alike); books-agree = k .books-agree; routes-right = k .routes-right; surveys-right = k .surveys-right }
 
   change : (c : Change Slots) → Alike (step c m) (plain-step c p)
   unfolding number-of

@@ -1,4 +1,6 @@
 // A book with memory of its own.
+ghost use mathlib.Core.Path.{_≡_};
+ghost use Rattle.std.specs.Of.Vec.{vec-items};
 use book::Head;
 use book::Line;
 use field::Field;
@@ -73,7 +75,9 @@ impl<G: Grade> Desk<G> {
     }
 
     // The line slots, by rising number.
-    pub fn lines(&self) -> &[Line<G>] {
+    pub fn lines(&self) -> &[Line<G>]
+        ensures { λ r. ⌜ now r ≡ vec-items (now (self .entry) .lines) ⌝ }
+    {
         &self.lines
     }
 
@@ -92,12 +96,16 @@ impl<G: Grade> Desk<G> {
     }
 
     // The line numbers of the last route, behind them what stood there before.
-    pub fn numbers(&self) -> &[u16] {
+    pub fn numbers(&self) -> &[u16]
+        ensures { λ r. ⌜ now r ≡ vec-items (now (self .entry) .numbers) ⌝ }
+    {
         &self.numbers
     }
 
     // The side of the last route: for each bridge whether it is marked.
-    pub fn side(&self) -> &[u8] {
+    pub fn side(&self) -> &[u8]
+        ensures { λ r. ⌜ now r ≡ vec-items (now (self .entry) .side) ⌝ }
+    {
         &self.side
     }
 }

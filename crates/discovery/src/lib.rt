@@ -3,7 +3,6 @@ mod desk;
 mod telling;
 mod text;
 
-pub use desk::Desk;
 pub use telling::Detail;
 pub use telling::Request;
 pub use telling::report;

@@ -1,7 +1,7 @@
 -- Opening by marks answers what opening by lists of records does. Assumes nothing.
 use mathlib.Core.Path.{_≡_, refl, sym, ap, subst, _∙_}
-use mathlib.Core.Bool.{Bool, true, false, cond, not, _&&_, _||_}
-use mathlib.Core.List.{List, [], _∷_}
+use mathlib.Core.Bool.{Bool, true, false, cond, not, _&&_}
+use mathlib.Core.List.{List, [], _∷_, _++_}
 use mathlib.Core.Logic.{⊎-elim, _≢_}
 use Prim.Native.Nat.{ℕ, zero, suc, _+_, _-_, _*_, _≤_}
 use native.Mathlib.Omega.{arith}
@@ -9,11 +9,13 @@ use lib.Dec.{eqb, leb}
 use lib.ListN.{length, getD, set, replicate, length-set}
 use Rattle.std.specs.declared.option.Option.the-variants.{Some, None}
 use Rattle.std.proofs.shelf.Lists.{getD-set-same, getD-set-other, getD-replicate, length-replicate}
-use Rattle.std.proofs.shelf.Tests.{cases-bool, cases-eq, eq-eqb, ne-eqb, eqb-false, and-parts, leb-true, cond-true}
+use Rattle.std.proofs.shelf.Tests.{cases-bool, cases-eq, eqb-false, and-parts, leb-true, cond-true}
 use Rattle.grade.specs.declared.slots.Slots.{Slots}
 use Rattle.field.specs.Meaning.{Told}
 use Rattle.grade.specs.Told.{Reply, answers, refuses, and-then}
 use Rattle.theory.specs.Lists.{among}
+use Rattle.theory.proofs.Lists.{in-last, in-among}
+use Rattle.field.proofs.Members.{among-other}
 use Rattle.stored.specs.Stored.{bridges, records, base-of, head-of, next-in, stored-at, stored-tells, well-shaped, follow, follow-all, lowest, unless, wrong-slots, opened}
 use Rattle.stored.specs.Marks.{follow-marks, follow-all-marks}
 use Rattle.stored.proofs.Lowest.{lowest-same}
@@ -33,12 +35,12 @@ agree-cond : (r : ℕ) (b c : Bool) (p q : Reply (List Bool)) (s t : Reply (List
 agree-cond r true c p q s t e yes′ no′ = subst (λ x. Agree r p (cond x s t)) e (yes′ refl)
 agree-cond r false c p q s t e yes′ no′ = subst (λ x. Agree r q (cond x s t)) e (no′ refl)
 
-met-more : (r : ℕ) (marks : List Bool) (met : List ℕ) (index : ℕ) → 1 ≤ index → index ≤ r → Met r marks met → Met r (set marks (index - 1) true) (index ∷ met)
+met-more : (r : ℕ) (marks : List Bool) (met : List ℕ) (index : ℕ) → 1 ≤ index → index ≤ r → Met r marks met → Met r (set marks (index - 1) true) (met ++ (index ∷ []))
 met-more r marks met index low high M = record {
   long = rw length-set (M .long);
   same = λ i l h. ⊎-elim
-      (λ e. subst (λ x. getD (set marks (index - 1) true) (x - 1) false ≡ (eqb index x || among met x)) (sym e) (getD-set-same marks (index - 1) true false (omega (arith, M .long)) ∙ sym (ap (λ t. t || among met index) (eq-eqb index index refl))))
-      (λ ne. let apart : i - 1 ≢ index - 1 = omega arith in getD-set-other marks (index - 1) (i - 1) true false apart ∙ M .same i l h ∙ sym (ap (λ t. t || among met i) (ne-eqb index i (λ e. ne (sym e)))))
+      (λ e. subst (λ x. getD (set marks (index - 1) true) (x - 1) false ≡ among (met ++ (index ∷ [])) x) (sym e) (getD-set-same marks (index - 1) true false (omega (arith, M .long)) ∙ sym (in-among (met ++ (index ∷ [])) index (in-last index met))))
+      (λ ne. let apart : i - 1 ≢ index - 1 = omega arith in getD-set-other marks (index - 1) (i - 1) true false apart ∙ M .same i l h ∙ sym (among-other i met index ne))
       (cases-eq i index);
 }
 
@@ -56,7 +58,7 @@ follow-agree next r (suc left) index marks met M =
     agree-cond r (eqb index 0) (eqb index 0) _ _ _ _ refl (λ e. M)
     (λ e. let low : 1 ≤ index = omega (arith, eqb-false index 0 e) in
     agree-cond r (leb index r && not (getD marks (index - 1) false)) (leb index r && not (among met index)) _ _ _ _ (tests-same r marks met index low M)
-    (λ t. follow-agree next r left (next index) (set marks (index - 1) true) (index ∷ met) (met-more r marks met index low (leb-true index r (and-parts (leb index r) (not (getD marks (index - 1) false)) t .0)) M))
+    (λ t. follow-agree next r left (next index) (set marks (index - 1) true) (met ++ (index ∷ [])) (met-more r marks met index low (leb-true index r (and-parts (leb index r) (not (getD marks (index - 1) false)) t .0)) M))
     (λ t. refl))
 
 agree-then : (r : ℕ) (a : Reply (List Bool)) (b : Reply (List ℕ)) (f : List Bool → Reply (List Bool)) (g : List ℕ → Reply (List ℕ)) → Agree r a b → ((marks : List Bool) (met : List ℕ) → Met r marks met → Agree r (f marks) (g met)) → Agree r (and-then a f) (and-then b g)

@@ -1,7 +1,7 @@
 -- A survey stored as little-endian bytes: what it tells, and what is wrong with one that cannot be opened. Assumes nothing.
 use mathlib.Core.Path.{_≡_}
-use mathlib.Core.Bool.{Bool, cond, not, _&&_}
-use mathlib.Core.List.{List, [], _∷_, map}
+use mathlib.Core.Bool.{Bool, false, cond, not, _&&_}
+use mathlib.Core.List.{List, [], _∷_, _++_, map}
 use Prim.Native.Nat.{ℕ, zero, suc, _+_, _-_, _*_, _%_, _≤_}
 use lib.Dec.{eqb, leb}
 use lib.ListN.{length, getD}
@@ -12,7 +12,7 @@ use Rattle.grade.specs.Kinds.{slots-grade}
 use Rattle.stored.specs.declared.layout.Record.{Record}
 use Rattle.field.specs.Meaning.{Told, silent, listed, Entry}
 use Rattle.grade.specs.Told.{Reply, answers, refuses, and-then}
-use Rattle.theory.specs.Lists.{among}
+use Rattle.theory.specs.Lists.{In, Distinct, among}
 
 -- the byte at a place: what stands there is read as one of 0 to 255, which every byte is
 abbrev pub byte-at : List ℕ → ℕ → ℕ
@@ -80,7 +80,7 @@ unfoldable pub follow : (ℕ → ℕ) → (r left index : ℕ) → List ℕ → 
 follow next r zero index met = cond (eqb index 0) (answers met) (refuses (14, index, 0))
 follow next r (suc left) index met =
     cond (eqb index 0) (answers met)
-    (cond (leb index r && not (among met index)) (follow next r left (next index) (index ∷ met)) (refuses (14, index, 0)))
+    (cond (leb index r && not (among met index)) (follow next r left (next index) (met ++ (index ∷ []))) (refuses (14, index, 0)))
 
 -- the chains of the bridges 1 to b, one after the other
 abbrev pub follow-all : (ℕ → ℕ) → (ℕ → ℕ) → (r b : ℕ) → Reply (List ℕ)
@@ -120,7 +120,20 @@ unfoldable pub chain-end : (ℕ → ℕ) → (r left index : ℕ) → ℕ
 chain-end next r zero index = index
 chain-end next r (suc left) index = cond (leb 1 index && leb index r) (chain-end next r left (next index)) index
 
--- in a survey that opens, every chain is ended by zero
-abbrev pub Ends-by-zero : List ℕ → Type 0
-Ends-by-zero bytes =
-    (tells : ℕ → Told Slots) → opened bytes ≡ answers tells → (b : ℕ) → 1 ≤ b → b ≤ bridges bytes → chain-end (next-in bytes (base-of bytes)) (records bytes) 255 (head-of bytes b) ≡ 0
+-- the chains of the bridges 1 to b, one after the other
+abbrev pub chains-to : (ℕ → ℕ) → (ℕ → ℕ) → (r b : ℕ) → List ℕ
+chains-to head next r zero = []
+chains-to head next r (suc b) = chains-to head next r b ++ chain next r 255 (head (suc b))
+
+abbrev pub all-chains : List ℕ → List ℕ
+all-chains bytes = chains-to (head-of bytes) (next-in bytes (base-of bytes)) (records bytes) (bridges bytes)
+
+-- what a survey that opens is: each chain is ended by zero, each record is on exactly one chain, and its slots are in range
+pub record Whole (bytes : List ℕ) : Type 0 where
+  pub ended : (b : ℕ) → 1 ≤ b → b ≤ bridges bytes → chain-end (next-in bytes (base-of bytes)) (records bytes) 255 (head-of bytes b) ≡ 0
+  pub each : (i : ℕ) → 1 ≤ i → i ≤ records bytes → In i (all-chains bytes)
+  pub once : Distinct (all-chains bytes)
+  pub slots : (i : ℕ) → 1 ≤ i → i ≤ records bytes → wrong-slots (stored-at bytes (base-of bytes) i .slots) ≡ false
+
+abbrev pub Opens-whole : List ℕ → Type 0
+Opens-whole bytes = (tells : ℕ → Told Slots) → opened bytes ≡ answers tells → Whole bytes

@@ -3,7 +3,7 @@ ghost use mathlib.Core.Path.{_≡_};
 ghost use denote.Ref.{now};
 ghost use Rattle.grade.specs.Told.{told};
 ghost use Rattle.stored.specs.Laws.{stored-lawful};
-ghost use Rattle.stored.specs.Stored.{stored-tells, opened, Ends-by-zero};
+ghost use Rattle.stored.specs.Stored.{stored-tells, opened, Opens-whole};
 
 mod following;
 mod layout;
@@ -33,7 +33,7 @@ impl<'a> StoredSurvey<'a> {
     // Opens a stored survey, or refuses one that is wrong.
     pub fn open(bytes: &'a [u8]) -> Result<StoredSurvey<'a>, Refusal>
         ensures opened { λ r. ⌜ told (λ s. stored-tells (now (s .bytes))) r ≡ opened (now (bytes .entry)) ⌝ }
-        ensures chains { λ _. ⌜ Ends-by-zero (now (bytes .entry)) ⌝ }
+        ensures whole { λ _. ⌜ Opens-whole (now (bytes .entry)) ⌝ }
     {
         if !has_shape(bytes) {
             return Err(Refusal::WrongSurveyShape);

@@ -8,14 +8,14 @@ use native.Mathlib.Omega.{arith}
 use lib.Dec.{ltb}
 use lib.ListN.{getD, take, set, length-set}
 use Rattle.std.proofs.shelf.Lists.{take-more-set, getD-set-same, getD-set-other, length-take-le}
-use Rattle.std.proofs.shelf.Tests.{cases-eq, le-ltb, cond-true, cond-false}
+use Rattle.std.proofs.shelf.Tests.{cases-eq, le-ltb, cond-false}
 use Rattle.theory.specs.Lists.{In, Distinct, among}
 use Rattle.theory.proofs.Tests.{clash}
 use Rattle.theory.proofs.Lists.{in-snoc, in-last, in-among, distinct-snoc, length-snoc}
 use Rattle.theory.proofs.Counting.{few}
 use Rattle.survey.specs.Walk.{join}
 use Rattle.survey.specs.Working.{Found-in}
-use Rattle.survey.proofs.Members.{among-other}
+use Rattle.field.proofs.Members.{among-other}
 
 module _ {n : ℕ} {order marks : List ℕ} {count : ℕ} (far : ℕ) (F : Found-in n order marks count) (low : 1 ≤ far) (high : far ≤ n) where
   abbrev found : List ℕ

@@ -1,14 +1,11 @@
 -- The bridges found, as places in a list, and one more of them at its end. Assumes nothing.
-use mathlib.Core.Path.{_≡_, refl, sym, ap}
-use mathlib.Core.Bool.{false, _||_}
+use mathlib.Core.Path.{_≡_, refl, sym}
 use mathlib.Core.List.{List, [], _∷_, _++_}
 use mathlib.Core.Logic.{inl, inr}
 use Prim.Native.Nat.{ℕ, zero, suc, _<_}
 use native.Mathlib.Omega.{arith}
-use lib.Dec.{eqb}
 use lib.ListN.{length, getD}
-use Rattle.std.proofs.shelf.Tests.{ne-eqb}
-use Rattle.theory.specs.Lists.{In, among}
+use Rattle.theory.specs.Lists.{In}
 use Rattle.survey.specs.Walk.{join, join-all}
 
 pub in-getD : (xs : List ℕ) (k : ℕ) → k < length xs → In (getD xs k 0) xs
@@ -21,10 +18,6 @@ pub place-of : (b : ℕ) (xs : List ℕ) → In b xs → (k : ℕ) × (k < lengt
 place-of b [] h = absurd h
 place-of b (x ∷ xs) (inl e) = (0, omega arith, sym e)
 place-of b (x ∷ xs) (inr h) = let r = place-of b xs h in (suc (r .0), omega (arith, r .1), r .2)
-
-pub among-other : (b : ℕ) (xs : List ℕ) (x : ℕ) → (b ≡ x → ⊥) → among (xs ++ (x ∷ [])) b ≡ among xs b
-among-other b [] x ne = ap (λ t. t || false) (ne-eqb x b (λ e. ne (sym e)))
-among-other b (y ∷ xs) x ne = ap (λ t. eqb y b || t) (among-other b xs x ne)
 
 pub join-append : (found xs ys : List ℕ) → join-all found (xs ++ ys) ≡ join-all (join-all found xs) ys
 join-append found [] ys = refl

@@ -10,7 +10,7 @@ use Rattle.std.proofs.shelf.Tests.{lt-ltb, le-ltb, cond-true, cond-false}
 use Rattle.field.specs.Meaning.{Told}
 use Rattle.grade.specs.Told.{Reply, answers, and-then}
 use Rattle.survey.specs.Walk.{Progress, progress, read-bridge, walk-on}
-use Rattle.survey.specs.Working.{Found-in, Unstamped}
+use Rattle.survey.specs.Working.{Found-in}
 
 -- nothing is found in cleared memory
 pub found-none : {n : ℕ} {order marks : List ℕ} → n ≤ length order → n ≤ length marks → ((k : ℕ) → k < n → getD marks k 0 ≡ 0) → Found-in n order marks 0
@@ -22,9 +22,6 @@ found-none {n} lo lm clear = record {
   long-order = lo;
   long-marks = lm;
 }
-
-pub unstamped-none : {n : ℕ} {stamps : List ℕ} → n ≤ length stamps → ((k : ℕ) → k < n → getD stamps k 0 ≡ 0) → Unstamped n 1 stamps
-unstamped-none long clear = record { earlier = λ b l h. omega (arith, clear (b - 1) (omega arith)); long = long }
 
 -- the bridges found are as many as the count says, and stand where the memory has them
 pub count-found : {n count : ℕ} {order marks : List ℕ} → Found-in n order marks count → length (take count order) ≡ count

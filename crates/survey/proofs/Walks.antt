@@ -17,7 +17,7 @@ use Rattle.grade.specs.Told.{Reply, answers, refuses, and-then}
 use Rattle.grade.proofs.Replies.{refused-not, answers-same, by-cond}
 use Rattle.book.specs.Admission.{is-bridge}
 use Rattle.field.specs.Meaning.{Told, silent, listed, Entry, entries}
-use Rattle.survey.specs.Walk.{join, wrong-far, Progress, progress, read-list, read-bridge, walk-on, Found-line, lines-from, recorded, fars, join-all, Right-list, Reachable, here, told-by, Walks-all}
+use Rattle.survey.specs.Walk.{join, wrong-far, Progress, progress, read-list, read-bridge, walk-on, Found-line, lines-from, recorded, fars, join-all, Right-list, Reachable, here, told-by, Walks-all, told-before, Fault, silent-bridge, wrong-line, no-room, Stops-right}
 use Rattle.survey.proofs.Members.{in-getD, place-of, join-append}
 
 -- what a far number that can be keeps
@@ -225,3 +225,64 @@ module _ {G : Type 0} (tells : ℕ → Told G) (n L start : ℕ) where
         S .count ∙ ap (λ xs. length (recorded tells xs)) whole,
         S .fits,
       )
+
+told-snoc : {G : Type 0} (es : List (Entry G)) (e : Entry G) (before : List ℕ) → told-before (es ++ (e ∷ [])) before ≡ e .far ∷ told-before es before
+told-snoc [] e before = refl
+told-snoc (x ∷ es) e before = told-snoc es e (x .far ∷ before)
+
+same-refusal : {x y : ℕ × ℕ × ℕ} → _≡_ {A = Reply Progress} (refuses x) (refuses y) → x ≡ y
+same-refusal h = cc
+
+module _ {G : Type 0} (tells : ℕ → Told G) (n L start : ℕ) where
+  -- a refusal while a list is read, where `done` of it was read
+  read-stops : (near : ℕ) (taken : List ℕ) (done es : List (Entry G)) (p : Progress) (x : ℕ × ℕ × ℕ) → Reachable tells start near → tells near ≡ listed (done ++ es)
+      → p .lines ≡ length (recorded tells taken) + length done → p .lines ≤ L
+      → read-list n L near (length done + 1) (told-before done []) p es ≡ refuses x → Fault tells n L start x
+  read-stops near taken done [] p x r is count fits h = absurd (refused-not (sym h))
+  read-stops near taken done (e ∷ es) p x r is count fits h =
+      let next : Progress = progress (join (p .found) (e .far)) (p .lines + 1) in
+      let longer = length-append done (e ∷ []) in
+      let position : length done + 1 + 1 ≡ length (done ++ (e ∷ [])) + 1 = omega arith in
+      ⊎-elim
+      (λ wrong. subst (Fault tells n L start) (same-refusal (wrong .1)) (wrong-line done e es r is (wrong .0)))
+      (λ right. ⊎-elim
+      (λ room.
+      let below = ltb-true (p .lines) L (room .0) in
+      read-stops near taken (done ++ (e ∷ [])) es next x r (is ∙ ap listed (sym (append-assoc done (e ∷ []) es))) (omega arith) (omega arith)
+      (ap (λ (k : ℕ). read-list n L near k (told-before (done ++ (e ∷ [])) []) next es) (sym position)
+      ∙ ap (λ (before : List ℕ). read-list n L near (length done + 1 + 1) before next es) (told-snoc done e []) ∙ room .1))
+      (λ full.
+      let most = ltb-false (p .lines) L (full .0) in
+      subst (Fault tells n L start) (same-refusal (full .1)) (no-room taken done e es r is (omega arith)))
+      (by-cond (ltb (p .lines) L) (right .1)))
+      (by-cond (wrong-far n near (told-before done []) (e .far)) h)
+
+  walk-stops : (turns taken : ℕ) (p : Progress) (x : ℕ × ℕ × ℕ) → Sofar tells n L start taken p → walk-on tells n L turns taken p ≡ refuses x → Fault tells n L start x
+  walk-stops zero taken p x S h = absurd (refused-not (sym h))
+  walk-stops (suc turns) taken p x S h =
+      ⊎-elim
+      (λ more. at-told (λ m T e. walk-stops turns (taken + 1) m x T e) (ltb-true taken (length (p .found)) (more .0)) (tells near) refl (more .1))
+      (λ end. absurd (refused-not (sym (end .1))))
+      (by-cond (ltb taken (length (p .found))) h)
+    where
+      near : ℕ
+      near = getD (p .found) taken 0
+
+      Goes : Type 0
+      Goes = (m : Progress) → Sofar tells n L start (taken + 1) m → walk-on tells n L turns (taken + 1) m ≡ refuses x → Fault tells n L start x
+
+      reached : taken < length (p .found) → Reachable tells start near
+      reached l = S .still .reached near (in-getD (p .found) taken l)
+
+      at-answer : Goes → taken < length (p .found) → (es : List (Entry G)) → tells near ≡ listed es → (a : Reply Progress) → read-list n L near 1 [] p es ≡ a → and-then a (walk-on tells n L turns (taken + 1)) ≡ refuses x → Fault tells n L start x
+      at-answer go l es is (refuses y) e h = read-stops near (take taken (p .found)) [] es p x (reached l) is (omega (arith, S .count)) (S .fits) (e ∙ h)
+      at-answer go l es is (answers m) e h =
+          let all-reached = each-of (λ x. Reachable tells start (x .far)) es (λ x m. told-by x (reached l) is m) in
+          go m (taken-more tells n L start taken p m es l is (read-right tells n L start near 1 [] p es m e) S (read-keeps tells n L start near 1 [] p es m all-reached (S .still) e)) h
+
+      at-told : Goes → taken < length (p .found) → (t : Told G) → tells near ≡ t → and-then (read-bridge n L near p t) (walk-on tells n L turns (taken + 1)) ≡ refuses x → Fault tells n L start x
+      at-told go l (silent cause) is h = subst (Fault tells n L start) (same-refusal h) (silent-bridge cause (reached l) is)
+      at-told go l (listed es) is h = at-answer go l es is (read-list n L near 1 [] p es) refl h
+
+  pub stops-right : 1 ≤ start → start ≤ n → Stops-right tells n L start
+  stops-right low high x h = walk-stops n 0 (progress (start ∷ []) 0) x (start-sofar tells n L start low high) h

@@ -1,7 +1,7 @@
 -- How a survey finds bridges from a start, what it refuses on the way, and which bridges it is to find. Proved: an accepted walk
--- finds exactly the reachable bridges, each once, in the order found. Assumes nothing.
+-- finds exactly the reachable bridges, each once, in the order found, and a refused one tells a fault that is there. Assumes nothing.
 use mathlib.Core.Path.{_≡_}
-use mathlib.Core.Bool.{Bool, false, cond, not, _||_}
+use mathlib.Core.Bool.{Bool, true, false, cond, not, _||_}
 use mathlib.Core.List.{List, [], _∷_, _++_, map}
 use Prim.Native.Nat.{ℕ, zero, suc, _+_, _≤_}
 use lib.Dec.{eqb, ltb}
@@ -97,3 +97,20 @@ pub record Complete {G : Type 0} (tells : ℕ → Told G) (n start : ℕ) (order
 abbrev pub Walks-all : {G : Type 0} → (ℕ → Told G) → (n L start : ℕ) → Type 0
 Walks-all tells n L start =
     (p : Progress) → walked tells n L start ≡ answers p → Complete tells n start (p .found) × (p .lines ≡ length (recorded tells (p .found))) × (p .lines ≤ L)
+
+-- the far numbers of some lines, the last told first, before others
+abbrev pub told-before : {G : Type 0} → List (Entry G) → List ℕ → List ℕ
+told-before [] before = before
+told-before (e ∷ es) before = told-before es (e .far ∷ before)
+
+-- What a refusal on the way says is so. The bridge that it names is reachable, and it is silent with that cause, or its list has a
+-- line at that position: one that cannot be, or one that comes after L others, those of the bridges taken before it and of its own list.
+pub data Fault {G : Type 0} (tells : ℕ → Told G) (n L start : ℕ) : ℕ × ℕ × ℕ → Type 0 where
+  silent-bridge : {b : ℕ} (cause : ℕ) → Reachable tells start b → tells b ≡ silent cause → Fault tells n L start (9, b, cause)
+  wrong-line : {b : ℕ} (es : List (Entry G)) (e : Entry G) (rest : List (Entry G)) → Reachable tells start b → tells b ≡ listed (es ++ (e ∷ rest))
+      → wrong-far n b (told-before es []) (e .far) ≡ true → Fault tells n L start (10, b, length es + 1)
+  no-room : {b : ℕ} (taken : List ℕ) (es : List (Entry G)) (e : Entry G) (rest : List (Entry G)) → Reachable tells start b → tells b ≡ listed (es ++ (e ∷ rest))
+      → length (recorded tells taken) + length es ≡ L → Fault tells n L start (8, b, length es + 1)
+
+abbrev pub Stops-right : {G : Type 0} → (ℕ → Told G) → (n L start : ℕ) → Type 0
+Stops-right tells n L start = (x : ℕ × ℕ × ℕ) → walked tells n L start ≡ refuses x → Fault tells n L start x

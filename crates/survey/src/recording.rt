@@ -1,5 +1,5 @@
 // A survey from a start: the book is emptied, and the lines that the reachable bridges tell are laid.
-ghost use Prim.Native.Nat.{_+_, _*_, _≤_, _<_};
+ghost use Prim.Native.Nat.{_+_, _≤_, _<_};
 ghost use mathlib.Core.Bool.{true};
 ghost use mathlib.Core.Path.{_≡_};
 ghost use lib.ListN.{length, take};
@@ -9,7 +9,7 @@ ghost use Rattle.book.specs.Lawful.{lawful};
 ghost use Rattle.field.specs.Meaning.{entries};
 ghost use Rattle.survey.specs.Laying.{Ready-list, Ready-lists};
 ghost use Rattle.survey.specs.Recording.{lay-all, recorded-over, surveying};
-ghost use Rattle.survey.specs.Walk.{lines-from, recorded, walked, Walks-all};
+ghost use Rattle.survey.specs.Walk.{lines-from, recorded, walked, Stops-right, Walks-all};
 use crate::walk::walk;
 use book::Head;
 use book::Line;
@@ -93,7 +93,8 @@ fn walk_and_record<F: Field>(
 
 // Makes the book anew from what the bus tells: the lines of every bridge reachable from `start`, in the order found.
 // Answers how many they are. A refusal changes nothing of the book. What working memory holds afterwards is free.
-// `survey` is the whole call, and `reachable` says which bridges an accepted walk finds, and in which order.
+// `survey` is the whole call; `reachable` says which bridges an accepted walk finds, and in which order; `refusals` says that
+// what a refusal on the way names is so.
 pub fn survey<F: Field>(
     head: &mut Head,
     first: &mut [u16],
@@ -104,6 +105,7 @@ pub fn survey<F: Field>(
 ) -> Result<u16, Refusal>
     ensures survey { λ r. ⌜ (told (λ count. count) r, memory (now (head .exit)) (now (first .exit)) (now (lines .exit))) ≡ surveying (tells (now (field .entry))) (memory (now (head .entry)) (now (first .entry)) (now (lines .entry))) (length (now (work .entry))) start ⌝ }
     ensures reachable { λ _. ⌜ (1 ≤ start → start ≤ now (head .entry) .bridges → Walks-all (tells (now (field .entry))) (now (head .entry) .bridges) (now (head .entry) .slots) start) ⌝ }
+    ensures refusals { λ _. ⌜ (1 ≤ start → start ≤ now (head .entry) .bridges → Stops-right (tells (now (field .entry))) (now (head .entry) .bridges) (now (head .entry) .slots) start) ⌝ }
     ensures same { λ _. ⌜ tells (now (field .exit)) ≡ tells (now (field .entry)) ⌝ }
 {
     admit_book(head, first, lines, work)?;

@@ -6,7 +6,7 @@ use Rattle.std.proofs.shelf.Results.{err-from-errBy}
 use Rattle.book.specs.Memory.{memory}
 use Rattle.book.proofs.Admitted.{book-passed}
 use Rattle.survey.proofs.Surveys.{not-admitted, outside, goes}
-use Rattle.survey.proofs.Walks.{walks-all}
+use Rattle.survey.proofs.Walks.{walks-all, stops-right}
 use Rattle.survey.proofs.recording.survey.Needs as need
 
 pub returns-in-Break-admit-book : need.returns-in-Break-admit-book
@@ -17,6 +17,7 @@ returns-in-Break-admit-book g c =
     rw (p .1, p .2) (record {
       survey = not-admitted tells m (length (c .args .work .now)) (c .args .start) _ (c .in-Break-admit-book .ensures tt .told);
       reachable = walks-all tells (m .head .bridges) (m .head .slots) (c .args .start);
+      refusals = stops-right tells (m .head .bridges) (m .head .slots) (c .args .start);
       same = refl;
     })
 
@@ -27,6 +28,7 @@ returns-then-start-lt1 g c =
     record {
       survey = outside tells m (length (c .args .work .now)) (c .args .start) (c .in-Continue-admit-book .ensures tt .told) (c .then-start-lt1 .either);
       reachable = walks-all tells (m .head .bridges) (m .head .slots) (c .args .start);
+      refusals = stops-right tells (m .head .bridges) (m .head .slots) (c .args .start);
       same = refl;
     }
 
@@ -37,6 +39,7 @@ returns g c =
     record {
       survey = c .walk-and-record .ensures .survey ∙ goes tells m (length (c .args .work .now)) (c .args .start) (c .in-Continue-admit-book .ensures tt .told) (c .if-start-lt1 .left) (c .if-start-bridges .left);
       reachable = walks-all tells (m .head .bridges) (m .head .slots) (c .args .start);
+      refusals = stops-right tells (m .head .bridges) (m .head .slots) (c .args .start);
       same = c .walk-and-record .ensures .same;
     }
 

@@ -12,9 +12,11 @@ mod turns;
 mod way;
 mod width;
 
+pub use begin::clear;
 pub use chain::number_between;
 pub use label::label_at_most;
 pub use label::label_of;
+pub use label::record_at;
 pub use net::Net;
 pub use tables::Tables;
 pub use tables::TablesNet;

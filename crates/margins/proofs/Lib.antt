@@ -5,3 +5,4 @@ pub mod Picking
 pub mod Lowering
 pub mod Telling
 pub mod Verdicts
+pub mod Placing

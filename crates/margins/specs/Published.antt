@@ -23,4 +23,4 @@ margins-admission m work records = cond (leb (m .head .slots) records) (book-adm
 -- then the verdict on the line numbers
 abbrev pub margins-asked : {G : Type 0} → (G → G → Bool) → Memory G → ℕ → List ℕ → List (Margin G) → Told-margins G
 margins-asked le m work ks out =
-    unless-refused (margins-admission m work (length out)) out (verdict-told (margins-of le (m .head .bridges) (standing m) ks) (m .lines) out)
+    unless-refused (margins-admission m work (length out)) out (verdict-told (margins-of le (m .head .bridges) (standing m) ks) (standing m) out)

@@ -69,7 +69,7 @@ pub fn judge<'a, G: Grade>(
     requires few { ⌜ length (now lines) < 65535 ⌝ }
     requires work { ⌜ 8 * n ≤ length (now work) ⌝ }
     requires out { ⌜ length (now lines) ≤ length (now out) ⌝ }
-    ensures { λ r. ⌜ (told (λ _. tt) r, now (out .exit)) ≡ verdict-told (margins-of le n (standing (now (lines .entry))) (now (numbers .entry))) (now (lines .entry)) (now (out .entry)) ⌝ }
+    ensures { λ r. ⌜ (told (λ _. tt) r, now (out .exit)) ≡ verdict-told (margins-of le n (standing (now (lines .entry))) (now (numbers .entry))) (standing (now (lines .entry))) (now (out .entry)) ⌝ }
 {
     let Some(ends) = route_ends(lines, numbers) else {
         return Err(Refusal::NotARoute);

@@ -10,12 +10,13 @@ use Rattle.margins.specs.Standing.{standing}
 use Rattle.margins.specs.Picking.{picked}
 use Rattle.margins.specs.Telling.{verdict-told}
 use Rattle.margins.proofs.Telling.{without-none}
+use Rattle.margins.proofs.Placing.{all-placed}
 use Rattle.margins.proofs.Verdicts.{verdict-none, verdict-by, ends-apart, two-bridges, margin-listed, picked-whole, held-told}
 use Rattle.margins.proofs.judging.judge.Needs as need
 
 pub returns-in-rest : need.returns-in-rest
 returns-in-rest g c =
-    sym (ap (λ v. verdict-told v (c .args .lines .now) (c .args .out .now)) (verdict-none (g .G·Grade .le) (c .args .n) (standing (c .args .lines .now)) (c .args .numbers .now) (c .in-rest .ensures tt)))
+    sym (ap (λ v. verdict-told v (standing (c .args .lines .now)) (c .args .out .now)) (verdict-none (g .G·Grade .le) (c .args .n) (standing (c .args .lines .now)) (c .args .numbers .now) (c .in-rest .ensures tt)))
 
 pub returns-in-rest-lowest-but : need.returns-in-rest-lowest-but
 returns-in-rest-lowest-but g c =
@@ -23,7 +24,7 @@ returns-in-rest-lowest-but g c =
     let lines = c .args .lines .now in
     let ks = c .args .numbers .now in
     let wide = ap (width-along le) (sym (picked-whole lines ks)) ∙ held-told _ _ (c .in-rest-lowest-but .ensures tt) in
-    sym (ap (λ v. verdict-told v lines (c .args .out .now)) (verdict-by le (c .args .n) (standing lines) ks (c .in-Some .ends .start, c .in-Some .ends .end) (c .in-Some .ensures tt) none _ wide refl))
+    sym (ap (λ v. verdict-told v (standing lines) (c .args .out .now)) (verdict-by le (c .args .n) (standing lines) ks (c .in-Some .ends .start, c .in-Some .ends .end) (c .in-Some .ensures tt) none _ wide refl))
 
 pub best-width-requires : need.best-width-requires
 best-width-requires g c κs =
@@ -39,7 +40,7 @@ returns-in-rest-best-width g c =
     let w = c .in-Some-lowest-but .width in
     let wide = ap (width-along le) (sym (picked-whole lines ks)) ∙ held-told _ _ (c .in-Some-lowest-but .ensures tt) in
     let best = ap (λ xs. best-width le xs (c .args .n) (ends .start) (ends .end)) (sym (without-none 0 lines)) ∙ held-told _ _ (c .in-rest-best-width .ensures tt (standing lines) (c .pre .holds) (c .pre .proper .apart)) in
-    sym (ap (λ v. verdict-told v lines (c .args .out .now)) (verdict-by le (c .args .n) (standing lines) ks (ends .start, ends .end) (c .in-Some .ensures tt) (some w) none wide best))
+    sym (ap (λ v. verdict-told v (standing lines) (c .args .out .now)) (verdict-by le (c .args .n) (standing lines) ks (ends .start, ends .end) (c .in-Some .ensures tt) (some w) none wide best))
 
 pub returns-then-not-at-most : need.returns-then-not-at-most
 returns-then-not-at-most g c =
@@ -51,7 +52,7 @@ returns-then-not-at-most g c =
     let v = c .in-Some-best-width .best in
     let wide = ap (width-along le) (sym (picked-whole lines ks)) ∙ held-told _ _ (c .in-Some-lowest-but .ensures tt) in
     let best = ap (λ xs. best-width le xs (c .args .n) (ends .start) (ends .end)) (sym (without-none 0 lines)) ∙ held-told _ _ (c .in-Some-best-width .ensures tt (standing lines) (c .pre .holds) (c .pre .proper .apart)) in
-    sym (ap (λ r. verdict-told r lines (c .args .out .now))
+    sym (ap (λ r. verdict-told r (standing lines) (c .args .out .now))
     (verdict-by le (c .args .n) (standing lines) ks (ends .start, ends .end) (c .in-Some .ensures tt) (some w) (some v) wide best
     ∙ sym (ap (verdict-on le (c .args .n) (standing lines) (ends .start) (ends .end) (picked (standing lines) ks) w) (c .if-not-at-most .ensures tt))))
 
@@ -78,5 +79,5 @@ returns g c =
     verdict-by le (c .args .n) (standing lines) ks (ends .start, ends .end) (c .in-Some .ensures tt) (some w) (some v) wide best
     ∙ sym (ap (verdict-on le (c .args .n) (standing lines) (ends .start) (ends .end) (picked (standing lines) ks) w) (c .if-not-at-most .ensures tt))
     ∙ ap accepted (margin-listed le (c .args .n) (standing lines) ks (ends .start, ends .end) (c .in-Some .ensures tt) (ends .start) (ends .end) w) in
-    ap (λ xs. (answers tt, xs)) (c .tell-margins .ensures)
-    ∙ sym (ap (λ r. verdict-told r lines (c .args .out .now)) verdict)
+    ap (λ xs. (answers tt, xs)) (c .tell-margins .ensures ∙ all-placed _ 1 lines (c .args .out .now))
+    ∙ sym (ap (λ r. verdict-told r (standing lines) (c .args .out .now)) verdict)

@@ -6,7 +6,8 @@ ghost use Prim.Native.Nat.{ℕ, _+_, _*_, _<_, _≤_};
 ghost use lib.Dec.{eqb};
 ghost use lib.ListN.{length, getD, set};
 ghost use Rattle.theory.specs.Lists.{among, Each};
-ghost use Rattle.theory.specs.Arcs.{Arc, Lines, Proper};
+ghost use Rattle.theory.specs.Arcs.{Arc, Lines, Proper, width as width-along};
+ghost use Rattle.theory.specs.Widest.{best-width};
 ghost use Rattle.theory.specs.Reach.{reaches};
 ghost use Rattle.theory.specs.Margins.{without, limit-reached};
 ghost use Rattle.standing.specs.Standing.{arc};
@@ -14,6 +15,7 @@ ghost use Rattle.search.specs.Chains.{Lawful, Holds};
 ghost use Rattle.search.specs.Marks.{takens};
 ghost use Rattle.search.specs.Widths.{as-held};
 ghost use Rattle.margins.specs.Standing.{standing};
+ghost use Rattle.margins.specs.Picking.{picked};
 ghost use Rattle.margins.specs.Telling.{as-told, record-of, margins-in};
 ghost use Rattle.margins.specs.Asked.{Sound, Reached, Reaching, margin-if, margin-told, margin-off};
 use crate::asked::Asked;
@@ -97,6 +99,28 @@ fn high_end<G: Grade>(
     Some(bar)
 }
 
+// The width of a widest route between the route's ends without one line.
+fn width_without<G: Grade>(asked: &Asked<'_, G>, number: u16, work: &mut [u16]) -> Option<G>
+    requires sound { ⌜ Sound (now asked) ⌝ }
+    requires work { ⌜ 3 * now asked .n + 3 ≤ length (now work) ⌝ }
+    ensures { λ r. ⌜ r ≡ as-held (best-width le (without (standing (now (now (asked .entry) .lines))) number) (now (asked .entry) .n) (now (asked .entry) .start) (now (asked .entry) .end)) ⌝ }
+{
+    let tables = Tables {
+        n: asked.n,
+        first: asked.first,
+        lines: asked.lines,
+        skip: number,
+    };
+    best_width(&tables, work, asked.start, asked.end)
+}
+
+// The lowest grade of the route's other lines, the first along it where alike.
+fn limit_without<G: Grade>(asked: &Asked<'_, G>, number: u16) -> Option<G>
+    ensures { λ r. ⌜ r ≡ as-held (width-along le (without (picked (standing (now (now (asked .entry) .lines))) (now (now (asked .entry) .numbers))) number)) ⌝ }
+{
+    lowest_but(asked.lines, asked.numbers, number)
+}
+
 // The margin of a line on the route: all is searched without it.
 fn margin_on<G: Grade>(
     asked: &Asked<'_, G>,
@@ -109,14 +133,14 @@ fn margin_on<G: Grade>(
     requires work { ⌜ 3 * now asked .n + 3 ≤ length (now work) ⌝ }
     ensures { λ r. ⌜ r ≡ margin-if le (now (asked .entry)) (arc number line) true ⌝ }
 {
+    let low = width_without(asked, number, work);
+    let limit = limit_without(asked, number);
     let tables = Tables {
         n: asked.n,
         first: asked.first,
         lines: asked.lines,
         skip: number,
     };
-    let low = best_width(&tables, work, asked.start, asked.end);
-    let limit = lowest_but(asked.lines, asked.numbers, number);
     let high = high_end(&tables, work, asked.start, asked.end, line, limit);
     Margin { low, high }
 }

@@ -8,11 +8,6 @@ use Rattle.margins.specs.Telling.{as-told}
 use Rattle.margins.proofs.Telling.{told-held, margin-path}
 use Rattle.margins.proofs.margin.margin_on.Needs as need
 
-pub best-width-low-requires : need.best-width-low-requires
-best-width-low-requires g c κs =
-    let s = c .pre .sound in
-    record { lawful = s .tables; few = s .few; work = c .pre .work; start = s .ends .near-to; end = s .ends .far-to }
-
 pub high-end-high-requires : need.high-end-high-requires
 high-end-high-requires g c κs =
     let s = c .pre .sound in
@@ -20,7 +15,7 @@ high-end-high-requires g c κs =
     record {
       lawful = s .tables;
       few = s .few;
-      work = omega (arith, c .pre .work, c .best-width-low .kept .work);
+      work = omega (arith, c .pre .work, c .width-without-low .kept .work);
       start = (s .ends .near-from, s .ends .near-to);
       end = (s .ends .far-from, s .ends .far-to);
       line = record { near-from = line .near-from; near-to = line .near-to; far-from = line .far-from; far-to = line .far-to; differ = line .differ };
@@ -32,7 +27,7 @@ returns g c =
     let t = c .args .asked .now in
     let arcs = standing (t .lines .now) in
     let s = c .pre .sound in
-    margin-path (c .best-width-low .ensures arcs (s .holds) (s .proper .apart))
+    margin-path (c .width-without-low .ensures)
     (c .high-end-high .ensures arcs (s .holds) (s .proper)
     ∙ ap (λ q. as-held (limit-reached le (t .n) (without arcs (c .args .number)) (t .start) (t .end) (arc 0 (c .args .line)) q))
-    (ap as-told (c .lowest-but-limit .ensures) ∙ told-held _))
+    (ap as-told (c .limit-without-limit .ensures) ∙ told-held _))

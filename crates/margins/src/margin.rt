@@ -100,16 +100,16 @@ fn high_end<G: Grade>(
 }
 
 // The width of a widest route between the route's ends without one line.
-fn width_without<G: Grade>(asked: &Asked<'_, G>, number: u16, work: &mut [u16]) -> Option<G>
+fn width_without<G: Grade>(asked: &Asked<'_, G>, omitted: u16, work: &mut [u16]) -> Option<G>
     requires sound { ⌜ Sound (now asked) ⌝ }
     requires work { ⌜ 3 * now asked .n + 3 ≤ length (now work) ⌝ }
-    ensures { λ r. ⌜ r ≡ as-held (best-width le (without (standing (now (now (asked .entry) .lines))) number) (now (asked .entry) .n) (now (asked .entry) .start) (now (asked .entry) .end)) ⌝ }
+    ensures { λ r. ⌜ r ≡ as-held (best-width le (without (standing (now (now (asked .entry) .lines))) omitted) (now (asked .entry) .n) (now (asked .entry) .start) (now (asked .entry) .end)) ⌝ }
 {
     let tables = Tables {
         n: asked.n,
         first: asked.first,
         lines: asked.lines,
-        skip: number,
+        skip: omitted,
     };
     best_width(&tables, work, asked.start, asked.end)
 }

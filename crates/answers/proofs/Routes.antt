@@ -4,25 +4,26 @@ use mathlib.Core.List.{List, _++_}
 use mathlib.Core.Option.{Option, none, some}
 use Prim.Native.Nat.{ℕ, _≤_}
 use native.Mathlib.Omega.{arith}
-use lib.ListN.{length, drop, length-append}
+use lib.ListN.{length, length-append}
 use Rattle.theory.specs.Widest.{Wide, widest, side}
 use Rattle.grade.specs.Told.{Reply, answers, refuses, unless-refused}
 use Rattle.grade.specs.declared.slots.Slots.{Slots}
 use Rattle.grade.specs.Kinds.{slots-le}
 use Rattle.book.specs.Memory.{Memory}
 use Rattle.standing.specs.Standing.{standing}
-use Rattle.route.specs.Outcomes.{numbers-of, written, bytes}
+use Rattle.route.specs.Outcomes.{written, bytes}
 use Rattle.route.specs.Routing.{Routed, reply-of, routed-over, route-admission, routing}
 
 abbrev Within : Routed Slots → Type 0
 Within (answers found, (row, side)) = found .length ≤ length row
 Within (refuses r, after) = Unit {0}
 
+front-shorter : (xs ys : List ℕ) → length xs ≤ length (xs ++ ys)
+front-shorter xs ys = omega (arith, length-append xs ys)
+
 within-told : (w : Option (Wide Slots)) (row side : List ℕ) → Within (reply-of w, (written w row, side))
 within-told none row side = tt
-within-told (some r) row side =
-    let ns = numbers-of (r .lines) in
-    omega (arith, length-append ns (drop (length ns) row))
+within-told (some r) row side = front-shorter _ _
 
 within-unless : (check : Reply (Unit {0})) (row side : List ℕ) (call : Routed Slots) → Within call → Within (unless-refused check (row, side) call)
 within-unless (answers x) row side call h = h

@@ -13,7 +13,7 @@ use Rattle.plain.specs.Histories.{Call as Change, lays, regrades, lifts, step, 
 use Rattle.route.specs.Routing.{Routed}
 use Rattle.margins.specs.Published.{Told-margins}
 use Rattle.planner.proofs.Same.{alike}
-use Rattle.planner.specs.Promise.{Call, changes, routes, asks-margins, Answer, line-number, route-told, margins-told, call, plain-call, run, Every-history}
+use Rattle.planner.specs.Promise.{Call, changes, routes, asks-margins, Answer, line-number, line-count, route-told, margins-told, call, plain-call, run, Every-history}
 use Rattle.grammar.specs.declared.words.Command.{Command}
 use Rattle.grammar.specs.declared.words.Command.the-variants.{Lay, Regrade, Lift, Route, Margins, Turn}
 use Rattle.answers.specs.Answers.{in-memory, plainly, blank, blank-margins, is-there, bridge-of, numbered, routed, margined, margins-along, obeyed, replied, shown}
@@ -31,16 +31,19 @@ tail-of (x ∷ xs) = xs
 
 number-of : Answer Slots → Reply ℕ
 number-of (line-number r) = r
+number-of (line-count r) = r
 number-of (route-told r) = refused 0
 number-of (margins-told r) = refused 0
 
 told-of : Answer Slots → Routed Slots
 told-of (line-number r) = (refused 0, ([], []))
+told-of (line-count r) = (refused 0, ([], []))
 told-of (route-told r) = r
 told-of (margins-told r) = (refused 0, ([], []))
 
 margins-of : Answer Slots → Told-margins Slots
 margins-of (line-number r) = (refused 0, [])
+margins-of (line-count r) = (refused 0, [])
 margins-of (route-told r) = (refused 0, [])
 margins-of (margins-told r) = r
 
@@ -58,7 +61,7 @@ module _ (m : Memory Slots) (p : Plain Slots) (every : Every-history slots-le m 
   unfolding tail-of
   after c cs =
       let k = every (c ∷ cs) in
-      record { answers-alike = ap tail-of (k .answers-alike); books-agree = k .books-agree; routes-right = k .routes-right; margins-right = k .margins-right }
+      record { answers-alike = ap tail-of (k .answers-alike); books-agree = k .books-agree; routes-right = k .routes-right; surveys-right = k .surveys-right; margins-right = k .margins-right }
 
   change : (c : Change Slots) → Alike (step c m) (plain-step c p)
   unfolding number-of

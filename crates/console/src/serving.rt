@@ -40,6 +40,7 @@ pub fn serve<R: Read, W: Write>(heap: Global, input: &mut R, out: &mut W) -> Res
         }
         let text = answer_block(heap, &mut book, &mut held, &block[0..count])?;
         out.write_all(text.as_bytes())?;
+        out.flush()?;
     }
     let text = answer_rest(heap, &mut book, &held)?;
     out.write_all(text.as_bytes())?;

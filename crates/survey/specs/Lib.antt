@@ -1,0 +1,5 @@
+pub mod Walk
+pub mod Working
+pub mod Recording
+pub mod Plain
+pub mod Laying

@@ -12,6 +12,7 @@ mod turns;
 mod way;
 mod width;
 
+pub use begin::clear;
 pub use chain::number_between;
 pub use label::label_at_most;
 pub use label::label_of;

@@ -13,17 +13,17 @@ part-turn-reply-end c =
     let fits = within (tables (c .args .book .now)) 192 (c .bridge .result) (c .bridge-2 .result) blank blank _ (c .in-Ok .ensures tt) in
     omega (arith, fits .0, c .turn-told .kept .bridges)
 
-pub part-turn-reply-end-2 : need.part-turn-reply-end-2
-part-turn-reply-end-2 c =
+pub part-turn-reply-end-in-Ok : need.part-turn-reply-end-in-Ok
+part-turn-reply-end-in-Ok c =
     let fits = within (tables (c .args .book .now)) 192 (c .bridge .result) (c .bridge-2 .result) blank blank _ (c .in-Ok .ensures tt) in
-    omega (arith, fits .1, c .turn-told .kept .numbers)
+    omega (arith, fits .1, c .turn-told .kept .turned)
 
 pub returns-in-Ok : need.returns-in-Ok
 returns-in-Ok c =
     let m = tables (c .args .book .now) in
     let t = c .in-Ok .told in
     let row = c .turn-told .last .bridges in
-    let lines = c .turn-told .last .numbers in
+    let lines = c .turn-told .last .turned in
     let stops : t .bridges - 0 ≡ t .bridges = omega arith in
     let count : t .turned - 0 ≡ t .turned = omega arith in
     let told = ap (λ r. shown (turned r)) (c .in-Ok .ensures tt) in

@@ -1,5 +1,5 @@
-// How long a route question takes on a large network, and the margins of its lines: a ring of 256 bridges both ways with 512
-// random chords.
+// How long a route question takes on a large network, the margins of its lines, and the lines to turn: a ring of 256 bridges both
+// ways with 512 random chords.
 // The gate runs it without words and compares what it found; with the word `figures` it prints times as well.
 use book::Head;
 use book::Line;

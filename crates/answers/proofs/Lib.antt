@@ -1,2 +1,3 @@
 pub mod Routes
 pub mod Scripts
+pub mod Listing

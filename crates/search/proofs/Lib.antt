@@ -8,3 +8,4 @@ pub mod Lookups
 pub mod Offers
 pub mod Skipping
 pub mod Holdings
+pub mod Widths

@@ -3,3 +3,4 @@ pub mod Chains
 pub mod Marks
 pub mod Choices
 pub mod Ways
+pub mod Widths

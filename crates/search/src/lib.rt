@@ -10,13 +10,18 @@ mod offer;
 mod tables;
 mod turns;
 mod way;
+mod width;
 
+pub use begin::clear;
 pub use chain::number_between;
 pub use label::label_at_most;
 pub use label::label_of;
+pub use label::record_at;
 pub use net::Net;
 pub use tables::Tables;
 pub use tables::TablesNet;
 pub use tables::search_widest;
 pub use turns::run_search;
 pub use way::way_back;
+pub use width::best_width;
+pub use width::width_at;

@@ -1,10 +1,12 @@
-// How long a route question takes on a large network: a ring of 256 bridges both ways with 512 random chords.
+// How long a route question takes on a large network, and the margins of its lines: a ring of 256 bridges both ways with 512
+// random chords.
 // The gate runs it without words and compares what it found; with the word `figures` it prints times as well.
 use book::Head;
 use book::Line;
 use grade::Refusal;
 use grade::Slots;
 use grade::SlotsGrade;
+use margins::Margin;
 use std::env;
 use std::error::AnyError;
 use std::time::Instant;
@@ -12,6 +14,8 @@ use std::time::Instant;
 const BRIDGES: u16 = 256;
 
 const QUESTIONS: u32 = 2_000;
+
+const MARGIN_QUESTIONS: u32 = 100;
 
 // The tables of a book of 256 bridges and 1,024 line slots, and the memory that its calls are lent.
 #[derive(Drop)]
@@ -22,6 +26,7 @@ struct Network {
     work: [u16; 3072],
     numbers: [u16; 256],
     side: [u8; 256],
+    margins: [Margin<Slots>; 1024],
 }
 
 // Pseudo-random numbers, the same in every run.
@@ -61,6 +66,10 @@ fn empty_network() -> Result<Network, Refusal> {
         next: 0,
         grade: Slots::new(1)?,
     };
+    let none = Margin {
+        low: None,
+        high: None,
+    };
     let mut network = Network {
         head: Head {
             bridges: 0,
@@ -73,6 +82,7 @@ fn empty_network() -> Result<Network, Refusal> {
         work: [0; 3072],
         numbers: [0; 256],
         side: [0; 256],
+        margins: [none; 1024],
     };
     planner::open(
         &mut network.head,
@@ -144,6 +154,46 @@ impl Network {
     }
 }
 
+// The ends that a margin tells.
+fn ends(margin: &Margin<Slots>) -> u64 {
+    u64::from(margin.low.is_some()) + u64::from(margin.high.is_some())
+}
+
+impl Network {
+    fn route(&mut self, start: u16, end: u16) -> Result<usize, Refusal> {
+        let found = route::route(
+            &self.head,
+            &self.first,
+            &self.lines,
+            &mut self.work,
+            start,
+            end,
+            &mut self.numbers,
+            &mut self.side,
+        )?;
+        Ok(found.length.min(256))
+    }
+
+    // The margins of all lines for the route that was told.
+    fn ask_margins(&mut self, length: usize) -> u64 {
+        let told = margins::margins(
+            &self.head,
+            &self.first,
+            &self.lines,
+            &mut self.work,
+            &self.numbers[0..length.min(256)],
+            &mut self.margins,
+        );
+        let mut told_ends = 0u64;
+        if told.is_ok() {
+            for margin in &self.margins {
+                told_ends = told_ends.saturating_add(ends(margin));
+            }
+        }
+        told_ends
+    }
+}
+
 fn run(rt: &LibcRuntime) -> Result<(), AnyError> {
     let figures = env::args(rt)?.count() > 1;
     let mut dice = Dice { state: 1 };
@@ -163,6 +213,31 @@ fn run(rt: &LibcRuntime) -> Result<(), AnyError> {
     if figures {
         let each = span.as_nanos() / u128::from(QUESTIONS);
         println!(rt, "{each} ns for each route")?;
+    }
+    time_margins(rt, &mut network, &mut dice, figures)
+}
+
+// Asks for the margins of routes between random bridges.
+fn time_margins(
+    rt: &LibcRuntime,
+    network: &mut Network,
+    dice: &mut Dice,
+    figures: bool,
+) -> Result<(), AnyError> {
+    let mut told_ends = 0u64;
+    let mut lines = 0u64;
+    let start = Instant::now(rt)?;
+    for _ in 0..MARGIN_QUESTIONS {
+        if let Ok(length) = network.route(dice.bridge(), dice.bridge()) {
+            told_ends = told_ends.saturating_add(network.ask_margins(length));
+            lines = lines.saturating_add(length as u64);
+        }
+    }
+    let span = start.elapsed(rt)?;
+    println!(rt, "{told_ends} ends of margins on routes of {lines} lines")?;
+    if figures {
+        let each = span.as_nanos() / u128::from(MARGIN_QUESTIONS);
+        println!(rt, "{each} ns for each margins")?;
     }
     Ok(())
 }

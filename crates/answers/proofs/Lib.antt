@@ -1,3 +1,4 @@
 pub mod Routes
+pub mod Turns
 pub mod Scripts
 pub mod Listing

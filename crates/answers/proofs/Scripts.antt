@@ -6,17 +6,18 @@ use Prim.Native.Nat.{ℕ}
 use lib.ListN.{take}
 use Rattle.grade.specs.declared.slots.Slots.{Slots}
 use Rattle.grade.specs.Told.{Reply, answers, refuses, refused, unless-refused}
-use Rattle.grade.specs.Kinds.{slots-le, slots-grade, made-slots}
+use Rattle.grade.specs.Kinds.{slots-of, slots-le, slots-grade, made-slots}
 use Rattle.book.specs.Memory.{Memory}
 use Rattle.plain.specs.Plain.{Plain, Agrees}
 use Rattle.plain.specs.Histories.{Call as Change, lays, regrades, lifts, step, plain-step}
 use Rattle.route.specs.Routing.{Routed}
 use Rattle.margins.specs.Published.{Told-margins}
+use Rattle.turn.specs.Outcomes.{Outcome}
 use Rattle.planner.proofs.Same.{alike}
-use Rattle.planner.specs.Promise.{Call, changes, routes, asks-margins, Answer, line-number, line-count, route-told, margins-told, call, plain-call, run, Every-history}
+use Rattle.planner.specs.Promise.{Call, changes, routes, asks-margins, turns, Answer, line-number, line-count, route-told, margins-told, turn-told, load-told, call, plain-call, run, Every-history}
 use Rattle.grammar.specs.declared.words.Command.{Command}
 use Rattle.grammar.specs.declared.words.Command.the-variants.{Lay, Regrade, Lift, Route, Margins, Turn}
-use Rattle.answers.specs.Answers.{in-memory, plainly, blank, blank-margins, is-there, bridge-of, numbered, routed, margined, margins-along, obeyed, replied, shown}
+use Rattle.answers.specs.Answers.{in-memory, plainly, blank, blank-margins, is-there, bridge-of, numbered, routed, margined, margins-along, turned, obeyed, replied, shown}
 use Rattle.answers.specs.Scripts.{Asked, served, Every-script}
 
 -- ---- one call
@@ -34,18 +35,32 @@ number-of (line-number r) = r
 number-of (line-count r) = r
 number-of (route-told r) = refused 0
 number-of (margins-told r) = refused 0
+number-of (turn-told r) = refused 0
+number-of (load-told r) = r
 
 told-of : Answer Slots → Routed Slots
 told-of (line-number r) = (refused 0, ([], []))
 told-of (line-count r) = (refused 0, ([], []))
 told-of (route-told r) = r
 told-of (margins-told r) = (refused 0, ([], []))
+told-of (turn-told r) = (refused 0, ([], []))
+told-of (load-told r) = (refused 0, ([], []))
 
 margins-of : Answer Slots → Told-margins Slots
 margins-of (line-number r) = (refused 0, [])
 margins-of (line-count r) = (refused 0, [])
 margins-of (route-told r) = (refused 0, [])
 margins-of (margins-told r) = r
+margins-of (turn-told r) = (refused 0, [])
+margins-of (load-told r) = (refused 0, [])
+
+turn-of : Answer Slots → Outcome
+turn-of (line-number r) = (refused 0, ([], []))
+turn-of (line-count r) = (refused 0, ([], []))
+turn-of (route-told r) = (refused 0, ([], []))
+turn-of (margins-told r) = (refused 0, ([], []))
+turn-of (turn-told r) = r
+turn-of (load-told r) = (refused 0, ([], []))
 
 -- the same reply, and every history after it is alike
 abbrev Alike : {A : Type 0} → A × Memory Slots → A × Plain Slots → Type 0
@@ -61,7 +76,7 @@ module _ (m : Memory Slots) (p : Plain Slots) (every : Every-history slots-le m 
   unfolding tail-of
   after c cs =
       let k = every (c ∷ cs) in
-      record { answers-alike = ap tail-of (k .answers-alike); books-agree = k .books-agree; routes-right = k .routes-right; surveys-right = k .surveys-right; margins-right = k .margins-right }
+      record { answers-alike = ap tail-of (k .answers-alike); books-agree = k .books-agree; routes-right = k .routes-right; surveys-right = k .surveys-right; margins-right = k .margins-right; turns-right = k .turns-right }
 
   change : (c : Change Slots) → Alike (step c m) (plain-step c p)
   unfolding number-of
@@ -87,14 +102,14 @@ module _ (m : Memory Slots) (p : Plain Slots) (every : Every-history slots-le m 
   margins-alike (refuses r, after) = refl
 
   one-command : (c : Command) → Alike (shown (obeyed in-memory c m .0), obeyed in-memory c m .1) (shown (obeyed plainly c p .0), obeyed plainly c p .1)
-  unfolding told-of
+  unfolding told-of turn-of
   one-command (Lay near far slots) = numbered-alike _ _ (unless (made-slots slots) _ _ (change (lays 192 (bridge-of near) (bridge-of far) (slots-grade slots))))
   one-command (Regrade near far slots) = numbered-alike _ _ (unless (made-slots slots) _ _ (change (regrades 192 (bridge-of near) (bridge-of far) (slots-grade slots))))
   one-command (Lift near far) = numbered-alike _ _ (change (lifts 192 (bridge-of near) (bridge-of far)))
   one-command (Route start end) = (ap (λ (x : Answer Slots). shown (routed (told-of x))) (same (routes 192 (bridge-of start) (bridge-of end) blank blank)), every)
   one-command (Margins start end) =
       (ap (λ (x : Answer Slots). shown (margins-along in-memory m (told-of x))) (same (routes 192 (bridge-of start) (bridge-of end) blank blank)) ∙ ap shown (margins-alike (plainly .route (bridge-of start) (bridge-of end) p)), every)
-  one-command (Turn start end) = (refl, every)
+  one-command (Turn start end) = (ap (λ (x : Answer Slots). shown (turned (turn-of x))) (same (turns slots-of 192 (bridge-of start) (bridge-of end) blank blank)), every)
 
   one-line : (q : Reply Command) → Alike (shown (replied in-memory q m .0), replied in-memory q m .1) (shown (replied plainly q p .0), replied plainly q p .1)
   one-line (answers c) = one-command c

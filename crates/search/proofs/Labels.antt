@@ -35,3 +35,8 @@ module _ {G : Type 0} (lines : List (Line G)) where
 
   pub label-past : (number : ℕ) → (number ≡ 0 → ⊥) → length lines ≤ number - 1 → Some Unlimited ≡ label-of lines number
   label-past number ne le = sym (label-nth number ne ∙ ap (λ o. Some (grade-label o)) (nth-past lines (number - 1) le))
+
+  -- the number of a record stands for its grade
+  pub label-there : (number : ℕ) (line : Line G) → line-at lines number ≡ Some line → label-of lines number ≡ Some (Limited (line .grade))
+  label-there zero line e = absurd (let z : _≡_ {A = ℕ} 0 1 = cc in omega arith)
+  label-there (suc k) line e = ap (λ o. Some (grade-label o)) e

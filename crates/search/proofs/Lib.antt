@@ -3,6 +3,7 @@ pub mod Choosing
 pub mod Starting
 pub mod Searching
 pub mod Backward
+pub mod Writing
 pub mod Labels
 pub mod Lookups
 pub mod Offers

@@ -18,44 +18,44 @@ use Rattle.theory.specs.Delivery.{hand-by}
 use Rattle.book.specs.declared.memory.Line.{Line}
 use Rattle.standing.specs.Standing.{line-at}
 use Rattle.search.specs.Chains.{linked, chain, towards}
-use Rattle.search.specs.Marks.{Marks, mark-of, marks, offered, offered-all, beats}
+use Rattle.search.specs.Marks.{Marks, mark-of, marks, offered-to, offered, offered-all, beats}
 
 -- a label beats a mark as it beats the mark's label
 beats-mark : {X : Type 0} (le : X → X → Bool) (o : Mark X) (held : Held X) (w : ℕ) → mark-better le o (mark-of held w) ≡ beats le (o .label) held
 beats-mark le o None w = refl
 beats-mark le o (Some y) w = refl
 
-offer-cases : {X : Type 0} (le : X → X → Bool) (u : ℕ) (x : X) (f : X → X) (held : Held X) (w : ℕ) (b : Bool) → beats le (f x) held ≡ b → offer le u x (some f) (mark-of held w) ≡ cond b (some (record { label = f x; from = u })) (mark-of held w)
-offer-cases le u x f held w b e = ap (λ t. cond t (some (record { label = f x; from = u })) (mark-of held w)) (beats-mark le (record { label = f x; from = u }) held w ∙ e)
+offer-cases : {X : Type 0} (le : X → X → Bool) (u : ℕ) (y : X) (held : Held X) (w : ℕ) (b : Bool) → beats le y held ≡ b → offer le u y (some (λ x. x)) (mark-of held w) ≡ cond b (some (record { label = y; from = u })) (mark-of held w)
+offer-cases le u y held w b e = ap (λ t. cond t (some (record { label = y; from = u })) (mark-of held w)) (beats-mark le (record { label = y; from = u }) held w ∙ e)
 
-module _ {G X : Type 0} (le : X → X → Bool) (hand : Arc G → X → X) (read : ℕ → Held X) (labels ways : List ℕ) (u : ℕ) (x : X) (e : Arc G) where
+module _ {X : Type 0} (le : X → X → Bool) (read : ℕ → Held X) (labels ways : List ℕ) (u : ℕ) (y : X) (to : ℕ) where
   -- the offer is no better: nothing changes
-  pub offer-stays : beats le (hand e x) (read (getD labels (e .far) 0)) ≡ false → marks read labels ways ≡ offered le hand u x e (marks read labels ways)
-  offer-stays worse = fun-ext (λ v. at v (eqb v (e .far)) refl)
+  pub offer-stays : beats le y (read (getD labels to 0)) ≡ false → marks read labels ways ≡ offered-to le u y to (marks read labels ways)
+  offer-stays worse = fun-ext (λ v. at v (eqb v to) refl)
     where
-      at : (v : ℕ) (b : Bool) → eqb v (e .far) ≡ b → marks read labels ways v ≡ offered le hand u x e (marks read labels ways) v
-      at v false ne = sym (ap (λ t. cond t (offer le u x (some (hand e)) (marks read labels ways v)) (marks read labels ways v)) ne)
+      at : (v : ℕ) (b : Bool) → eqb v to ≡ b → marks read labels ways v ≡ offered-to le u y to (marks read labels ways) v
+      at v false ne = sym (ap (λ t. cond t (offer le u y (some (λ x. x)) (marks read labels ways v)) (marks read labels ways v)) ne)
       at v true eq =
-          let is : v ≡ e .far = eqb-true v (e .far) eq in
-          let worse-here : beats le (hand e x) (read (getD labels v 0)) ≡ false = rw is worse in
-          sym (ap (λ t. cond t (offer le u x (some (hand e)) (marks read labels ways v)) (marks read labels ways v)) eq ∙ offer-cases le u x (hand e) (read (getD labels v 0)) (getD ways v 0) false worse-here)
+          let is : v ≡ to = eqb-true v to eq in
+          let worse-here : beats le y (read (getD labels v 0)) ≡ false = rw is worse in
+          sym (ap (λ t. cond t (offer le u y (some (λ x. x)) (marks read labels ways v)) (marks read labels ways v)) eq ∙ offer-cases le u y (read (getD labels v 0)) (getD ways v 0) false worse-here)
 
   -- the offer is better: label and way in are written
-  pub offer-lands : (number : ℕ) → e .far < length labels → e .far < length ways → read number ≡ Some (hand e x) → beats le (hand e x) (read (getD labels (e .far) 0)) ≡ true → marks read (set labels (e .far) number) (set ways (e .far) u) ≡ offered le hand u x e (marks read labels ways)
-  offer-lands number in-labels in-ways stands better-here = fun-ext (λ v. at v (eqb v (e .far)) refl)
+  pub offer-lands : (number : ℕ) → to < length labels → to < length ways → read number ≡ Some y → beats le y (read (getD labels to 0)) ≡ true → marks read (set labels to number) (set ways to u) ≡ offered-to le u y to (marks read labels ways)
+  offer-lands number in-labels in-ways stands better-here = fun-ext (λ v. at v (eqb v to) refl)
     where
-      at : (v : ℕ) (b : Bool) → eqb v (e .far) ≡ b → marks read (set labels (e .far) number) (set ways (e .far) u) v ≡ offered le hand u x e (marks read labels ways) v
+      at : (v : ℕ) (b : Bool) → eqb v to ≡ b → marks read (set labels to number) (set ways to u) v ≡ offered-to le u y to (marks read labels ways) v
       at v false ne =
-          let apart : v ≢ e .far = eqb-false v (e .far) ne in
-          let l : getD (set labels (e .far) number) v 0 ≡ getD labels v 0 = getD-set-other labels (e .far) v number 0 apart in
-          let w : getD (set ways (e .far) u) v 0 ≡ getD ways v 0 = getD-set-other ways (e .far) v u 0 apart in
-          ap (λ k. mark-of (read k) (getD (set ways (e .far) u) v 0)) l ∙ ap (λ k. mark-of (read (getD labels v 0)) k) w ∙ sym (ap (λ t. cond t (offer le u x (some (hand e)) (marks read labels ways v)) (marks read labels ways v)) ne)
+          let apart : v ≢ to = eqb-false v to ne in
+          let l : getD (set labels to number) v 0 ≡ getD labels v 0 = getD-set-other labels to v number 0 apart in
+          let w : getD (set ways to u) v 0 ≡ getD ways v 0 = getD-set-other ways to v u 0 apart in
+          ap (λ k. mark-of (read k) (getD (set ways to u) v 0)) l ∙ ap (λ k. mark-of (read (getD labels v 0)) k) w ∙ sym (ap (λ t. cond t (offer le u y (some (λ x. x)) (marks read labels ways v)) (marks read labels ways v)) ne)
       at v true eq =
-          let is : v ≡ e .far = eqb-true v (e .far) eq in
-          let l : getD (set labels (e .far) number) v 0 ≡ number = ap (λ k. getD (set labels (e .far) number) k 0) is ∙ getD-set-same labels (e .far) number 0 in-labels in
-          let w : getD (set ways (e .far) u) v 0 ≡ u = ap (λ k. getD (set ways (e .far) u) k 0) is ∙ getD-set-same ways (e .far) u 0 in-ways in
-          let beats-here : beats le (hand e x) (read (getD labels v 0)) ≡ true = rw is better-here in
-          ap (λ k. mark-of (read k) (getD (set ways (e .far) u) v 0)) l ∙ ap (λ k. mark-of (read number) k) w ∙ ap (λ h. mark-of h u) stands ∙ sym (ap (λ t. cond t (offer le u x (some (hand e)) (marks read labels ways v)) (marks read labels ways v)) eq ∙ offer-cases le u x (hand e) (read (getD labels v 0)) (getD ways v 0) true beats-here)
+          let is : v ≡ to = eqb-true v to eq in
+          let l : getD (set labels to number) v 0 ≡ number = ap (λ k. getD (set labels to number) k 0) is ∙ getD-set-same labels to number 0 in-labels in
+          let w : getD (set ways to u) v 0 ≡ u = ap (λ k. getD (set ways to u) k 0) is ∙ getD-set-same ways to u 0 in-ways in
+          let beats-here : beats le y (read (getD labels v 0)) ≡ true = rw is better-here in
+          ap (λ k. mark-of (read k) (getD (set ways to u) v 0)) l ∙ ap (λ k. mark-of (read number) k) w ∙ ap (λ h. mark-of h u) stands ∙ sym (ap (λ t. cond t (offer le u y (some (λ x. x)) (marks read labels ways v)) (marks read labels ways v)) eq ∙ offer-cases le u y (read (getD labels v 0)) (getD ways v 0) true beats-here)
 
 -- where no line has the far bridge, none is found
 pub no-line-towards : {G : Type 0} (es : List (Arc G)) (v : ℕ) → (In v (map (λ e. e .far) es) → ⊥) → towards es v ≡ none

@@ -28,6 +28,10 @@ takens taken v = not (eqb (getD taken v 0) 0)
 abbrev pub state-of : {X : Type 0} → (ℕ → Held X) → List ℕ → List ℕ → List ℕ → State X
 state-of read labels ways taken = record { mark = marks read labels ways; taken = takens taken }
 
+-- bridge u offers a bridge a label: it replaces only a worse one, or none
+abbrev pub offered-to : {X : Type 0} → (X → X → Bool) → ℕ → X → ℕ → Marks X → Marks X
+offered-to le u y to m v = cond (eqb v to) (offer le u y (some (λ x. x)) (m v)) (m v)
+
 -- bridge u, whose label is x, offers the far bridge of one line what that line hands on
 abbrev pub offered : {G X : Type 0} → (X → X → Bool) → (Arc G → X → X) → ℕ → X → Arc G → Marks X → Marks X
 offered le hand u x e m v = cond (eqb v (e .far)) (offer le u x (some (hand e)) (m v)) (m v)

@@ -20,7 +20,7 @@ use theory::labels::Label;
 use theory::labels::LabelClone;
 
 // The number of the start's label: no line has it.
-const START_LABEL: u16 = 65535;
+pub const START_LABEL: u16 = 65535;
 
 // The bridges 1 to n and their lines, but for the line of number `skip`; 0 leaves out none.
 #[derive(Clone, Copy)]

@@ -1,10 +1,10 @@
 // The way in to a bridge, read back from it.
 ghost use mathlib.Core.Path.{_≡_};
 ghost use mathlib.Core.List.{[]};
-ghost use Prim.Native.Nat.{ℕ, _≤_};
+ghost use Prim.Native.Nat.{ℕ, _<_, _≤_};
 ghost use lib.ListN.{length, drop};
 ghost use Rattle.std.specs.declared.option.Option.the-variants.{None};
-ghost use Rattle.search.specs.Ways.{back};
+ghost use Rattle.search.specs.Ways.{back, placed, place-after};
 use crate::net::Net;
 
 // Writes the bridges after `start` on the way in to `end`, in order, at the back of the memory, and tells where they begin.
@@ -39,4 +39,19 @@ pub fn way_back<N: Net>(
         bridge = ways[place];
     }
     at
+}
+
+// Writes a number that may be there, and tells the place after it.
+pub fn put_number(numbers: &mut [u16], at: usize, number: Option<u16>) -> usize
+    requires { ⌜ at < length (now numbers) ⌝ }
+    ensures place { λ r. ⌜ r ≡ place-after at number ⌝ }
+    ensures after { λ _. ⌜ now (numbers .exit) ≡ placed (now (numbers .entry)) at number ⌝ }
+{
+    match number {
+        None => at,
+        Some(x) => {
+            numbers[at] = x;
+            at + 1
+        }
+    }
 }

@@ -18,18 +18,25 @@ use book::Line;
 use grade::Grade;
 use theory::labels::Label;
 
-// The width that the end's label tells, by its number and the end's taken mark: none where the search did not come there.
-pub fn width_at<G: Grade>(lines: &[Line<G>], number: u16, taken: u16) -> Option<G>
-    ensures { λ r. ⌜ r ≡ width-in (not (eqb taken 0)) (label-of (now (lines .entry)) number) ⌝ }
+// The width that the end's label tells, by the end's taken mark: none where the search did not come there.
+pub fn width_told<G: Copy>(label: Option<Label<G>>, taken: u16) -> Option<G>
+    ensures { λ r. ⌜ r ≡ width-in (not (eqb taken 0)) label ⌝ }
 {
     if taken == 0 {
         return None;
     }
-    match label_of(lines, number) {
+    match label {
         None => None,
         Some(Label::Unlimited) => None,
         Some(Label::Limited(grade)) => Some(grade),
     }
+}
+
+// The same by the label's number.
+pub fn width_at<G: Grade>(lines: &[Line<G>], number: u16, taken: u16) -> Option<G>
+    ensures { λ r. ⌜ r ≡ width-in (not (eqb taken 0)) (label-of (now (lines .entry)) number) ⌝ }
+{
+    width_told(label_of(lines, number), taken)
 }
 
 // The width of a widest route from `start` to `end` over the lines of the tables, if there is a route.

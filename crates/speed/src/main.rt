@@ -10,12 +10,15 @@ use margins::Margin;
 use std::env;
 use std::error::AnyError;
 use std::time::Instant;
+use turn::Turned;
 
 const BRIDGES: u16 = 256;
 
 const QUESTIONS: u32 = 2_000;
 
 const MARGIN_QUESTIONS: u32 = 100;
+
+const TURN_QUESTIONS: u32 = 200;
 
 // The tables of a book of 256 bridges and 1,024 line slots, and the memory that its calls are lent.
 #[derive(Drop)]
@@ -25,6 +28,7 @@ struct Network {
     lines: [Line<Slots>; 1024],
     work: [u16; 3072],
     numbers: [u16; 256],
+    turned: [u16; 256],
     side: [u8; 256],
     margins: [Margin<Slots>; 1024],
 }
@@ -81,6 +85,7 @@ fn empty_network() -> Result<Network, Refusal> {
         lines: [line; 1024],
         work: [0; 3072],
         numbers: [0; 256],
+        turned: [0; 256],
         side: [0; 256],
         margins: [none; 1024],
     };
@@ -174,6 +179,20 @@ impl Network {
         Ok(found.length.min(256))
     }
 
+    // The route with lines turned round; its bridges and the turned lines go into memory of their own.
+    fn ask_turn(&mut self, start: u16, end: u16) -> Result<Turned, Refusal> {
+        turn::turn(
+            &self.head,
+            &self.first,
+            &self.lines,
+            &mut self.work,
+            start,
+            end,
+            &mut self.numbers,
+            &mut self.turned,
+        )
+    }
+
     // The margins of all lines for the route that was told.
     fn ask_margins(&mut self, length: usize) -> u64 {
         let numbers = self.numbers;
@@ -239,6 +258,31 @@ fn time_margins(
     if figures {
         let each = span.as_nanos() / u128::from(MARGIN_QUESTIONS);
         println!(rt, "{each} ns for each margins")?;
+    }
+    time_turns(rt, network, dice, figures)
+}
+
+// Asks for the lines to turn between random bridges.
+fn time_turns(
+    rt: &LibcRuntime,
+    network: &mut Network,
+    dice: &mut Dice,
+    figures: bool,
+) -> Result<(), AnyError> {
+    let mut bridges = 0u64;
+    let mut lines = 0u64;
+    let start = Instant::now(rt)?;
+    for _ in 0..TURN_QUESTIONS {
+        if let Ok(told) = network.ask_turn(dice.bridge(), dice.bridge()) {
+            bridges = bridges.saturating_add(told.bridges as u64);
+            lines = lines.saturating_add(told.turned as u64);
+        }
+    }
+    let span = start.elapsed(rt)?;
+    println!(rt, "{lines} lines to turn on routes of {bridges} bridges")?;
+    if figures {
+        let each = span.as_nanos() / u128::from(TURN_QUESTIONS);
+        println!(rt, "{each} ns for each turn")?;
     }
     Ok(())
 }

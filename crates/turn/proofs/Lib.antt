@@ -1,0 +1,4 @@
+pub mod Loads
+pub mod Crossing
+pub mod Trails
+pub mod Turnings

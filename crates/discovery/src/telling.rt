@@ -1,4 +1,10 @@
 // What a survey found, as text.
+ghost use mathlib.Core.Path.{_≡_};
+ghost use mathlib.Core.List.{[], _∷_};
+ghost use Rattle.std.specs.Of.Vec.{vec-items};
+ghost use Rattle.std.specs.Vec.{made};
+ghost use Rattle.theory.specs.Lists.{among};
+ghost use Rattle.survey.specs.Walk.{join-all};
 use crate::desk::Desk;
 use crate::text::GradeText;
 use crate::text::Refused;
@@ -17,20 +23,42 @@ use std::fmt::Write;
 use stored::StoredField;
 use stored::StoredSurvey;
 
-// The bridges found from a start: the start, and each other bridge where the first lines of a book lead to it first.
-fn found_bridges<G: Grade>(
-    heap: Global,
-    start: u16,
-    lines: &[Line<G>],
-    count: u16,
-) -> Result<Vec<u16>, AllocError> {
+// Whether a bridge is among those found.
+fn is_found(found: &[u16], bridge: u16) -> bool
+    ensures { λ r. ⌜ r ≡ among (now (found .entry)) bridge ⌝ }
+{
+    for other in found {
+        if *other == bridge {
+            return true;
+        }
+    }
+    false
+}
+
+// The bridges found from a start: the start, and each other bridge where the far bridges of the lines first name it.
+fn found_bridges(heap: Global, start: u16, fars: &[u16]) -> Result<Vec<u16>, AllocError>
+    ensures { λ r. ⌜ made r (λ v. vec-items v ≡ join-all (start ∷ []) (now (fars .entry))) ⌝ }
+{
     let mut found = vec![in heap; start]?;
-    for line in lines.iter().take(usize::from(count)) {
-        if !found.contains(&line.far) {
-            found.push(line.far)?;
+    for far in fars {
+        if !is_found(&found, *far) {
+            found.push(*far)?;
         }
     }
     Ok(found)
+}
+
+// The far bridges of the first lines of a book.
+fn far_bridges<G: Grade>(
+    heap: Global,
+    lines: &[Line<G>],
+    count: u16,
+) -> Result<Vec<u16>, AllocError> {
+    let mut fars = Vec::new(heap);
+    for line in lines.iter().take(usize::from(count)) {
+        fars.push(line.far)?;
+    }
+    Ok(fars)
 }
 
 // Adds a word and then the first numbers of a row to a text.
@@ -109,7 +137,8 @@ fn add_found<G: Grade>(
     start: u16,
     count: u16,
 ) -> Result<(), AnyError> {
-    let found = found_bridges(heap, start, lines, count)?;
+    let fars = far_bridges(heap, lines, count)?;
+    let found = found_bridges(heap, start, &fars)?;
     add_numbers(text, "found", &found, found.len())?;
     writeln!(text)?;
     writeln!(text, "{count} lines")?;

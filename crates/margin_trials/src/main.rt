@@ -189,12 +189,13 @@ impl Network {
             &mut self.side,
         )?;
         let length = found.length.min(7);
+        let numbers = self.numbers;
         margins::margins(
             &self.head,
             &self.first,
             &self.lines,
             &mut self.work,
-            &self.numbers[0..length],
+            &numbers[0..length],
             &mut self.margins,
         )?;
         Ok(Told { start, end, length })

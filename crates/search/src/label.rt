@@ -15,9 +15,9 @@ pub fn record_at<G: Grade>(lines: &[Line<G>], number: u16) -> Option<Line<G>>
     if number == 0 {
         return None;
     }
-    let at = number as usize - 1;
-    if at < lines.len() {
-        Some(lines[at])
+    let place = number as usize - 1;
+    if place < lines.len() {
+        Some(lines[place])
     } else {
         None
     }

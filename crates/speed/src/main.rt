@@ -195,12 +195,13 @@ impl Network {
 
     // The margins of all lines for the route that was told.
     fn ask_margins(&mut self, length: usize) -> u64 {
+        let numbers = self.numbers;
         let told = margins::margins(
             &self.head,
             &self.first,
             &self.lines,
             &mut self.work,
-            &self.numbers[0..length.min(256)],
+            &numbers[0..length.min(256)],
             &mut self.margins,
         );
         let mut told_ends = 0u64;

@@ -1,10 +1,9 @@
 -- What one line more adds to the load, and how large a load can be. Assumes nothing.
-use mathlib.Core.Path.{_≡_, ap}
-use mathlib.Core.Bool.{Bool, true, false, cond}
+use mathlib.Core.Path.{_≡_, refl, sym, ap, _∙_}
+use mathlib.Core.Bool.{Bool, true, false, cond, not}
 use mathlib.Core.List.{List, [], _∷_}
 use Prim.Native.Nat.{ℕ, _*_, _≤_}
 use native.Mathlib.Omega.{arith}
-use borrow.Author.Tests.{eq-eqb, ne-eqb}
 use lib.ListN.{length}
 use lib.Dec.{eqb}
 use Rattle.std.specs.shelf.Lists.{All}
@@ -14,11 +13,13 @@ use Rattle.grade.specs.Kinds.{slots-of}
 use Rattle.book.specs.declared.memory.Line.{Line}
 use Rattle.turn.specs.Loads.{share, load-of}
 
-pub share-standing : (line : Line Slots) → (line .near ≡ 0 → ⊥) → share slots-of line ≡ slots-of (line .grade)
-share-standing line h = ap (λ b. cond b 0 (slots-of (line .grade))) (ne-eqb (line .near) 0 h)
-
-pub share-free : (line : Line Slots) → line .near ≡ 0 → share slots-of line ≡ 0
-share-free line h = ap (λ b. cond b 0 (slots-of (line .grade))) (eq-eqb (line .near) 0 h)
+-- a record adds its slots where a line stands in it (the test)
+pub share-is : (line : Line Slots) (stands : Bool) → stands ≡ not (eqb (line .near) 0) → share slots-of line ≡ cond stands (slots-of (line .grade)) 0
+share-is line stands is = go (eqb (line .near) 0) ∙ ap (λ t. cond t (slots-of (line .grade)) 0) (sym is)
+  where
+    go : (free : Bool) → cond free 0 (slots-of (line .grade)) ≡ cond (not free) (slots-of (line .grade)) 0
+    go true = refl
+    go false = refl
 
 -- a grade is read as at most 1,048,576 slots
 pub slots-few : (g : Slots) → slots-of g ≤ 1048576

@@ -1,6 +1,8 @@
 // The load of a slots book.
 ghost use mathlib.Core.Path.{_≡_};
+ghost use mathlib.Core.Bool.{not};
 ghost use Prim.Native.Nat.{_≤_};
+ghost use lib.Dec.{eqb};
 ghost use lib.ListN.{length};
 ghost use Rattle.grade.specs.Told.{told};
 ghost use Rattle.book.specs.Memory.{memory};
@@ -13,6 +15,13 @@ use grade::Refusal;
 use grade::Slots;
 use grade::SlotsGrade;
 
+// Whether a line stands in a slot: the near bridge of a free one is 0.
+fn stands(line: Line<Slots>) -> bool
+    ensures { λ r. ⌜ r ≡ not (eqb (line .near) 0) ⌝ }
+{
+    line.near != 0
+}
+
 // The sum of the slots of all standing lines, taken by line number.
 fn sum_slots(lines: &[Line<Slots>]) -> u32
     requires { ⌜ length (now lines) ≤ 1024 ⌝ }
@@ -20,7 +29,7 @@ fn sum_slots(lines: &[Line<Slots>]) -> u32
 {
     let mut sum = 0;
     for line in lines {
-        if line.near != 0 {
+        if stands(*line) {
             sum += line.grade.count();
         }
     }

@@ -1,8 +1,8 @@
 -- Load on the book in memory and on the plain book answers alike: a sum over lines does not depend on their order. Assumes nothing.
-use mathlib.Core.Path.{_≡_, refl, sym, ap, subst, _∙_}
+use mathlib.Core.Path.{_≡_, refl, sym, ap, _∙_}
 use mathlib.Core.Bool.{Bool, true, false, cond}
 use mathlib.Core.List.{List, [], _∷_}
-use mathlib.Core.Logic.{_⊎_, inl, inr}
+use mathlib.Core.Logic.{inl, inr}
 use Prim.Native.Nat.{ℕ, suc, _+_, _*_}
 use native.Mathlib.Omega.{arith}
 use borrow.Author.Tests.{eq-eqb, ne-eqb, eqb-false}
@@ -10,7 +10,7 @@ use lib.Dec.{eqb, leb}
 use Rattle.std.specs.shelf.Lists.{sumBy}
 use Rattle.std.proofs.shelf.Sums.{sumBy-cons}
 use Rattle.theory.specs.Lists.{In, Same}
-use Rattle.theory.specs.Arcs.{Arc, Apart, AllApart, Lines}
+use Rattle.theory.specs.Arcs.{Arc, AllApart, Lines}
 use Rattle.theory.specs.Margins.{without}
 use Rattle.theory.proofs.Lines.{apart-in}
 use Rattle.theory.proofs.Regrading.{in-without, without-in}

@@ -1,6 +1,6 @@
 -- What the numbers of pairs of lines stand for, and that offering over all lines of the table, from a bridge to the other end
 -- of each line that touches it, is offering along the lines with both directions added together. Assumes nothing.
-use mathlib.Core.Path.{_≡_, refl, sym, ap, subst, _∙_}
+use mathlib.Core.Path.{_≡_, refl, sym, ap, _∙_}
 use mathlib.Core.Bool.{Bool, true, false, cond, not, _&&_}
 use mathlib.Core.List.{List, [], _∷_, _++_}
 use mathlib.Core.Logic.{_⊎_, inl, inr}
@@ -15,12 +15,12 @@ use Rattle.std.specs.declared.option.Option.{Option as Held}
 use Rattle.std.specs.declared.option.Option.the-variants.{Some, None}
 use Rattle.std.proofs.shelf.Maps.{nth-getD, nth-past}
 use Rattle.theory.specs.Lists.{In}
-use Rattle.theory.specs.Order.{Ranked, lower}
+use Rattle.theory.specs.Order.{lower}
 use Rattle.theory.specs.Arcs.{Arc, at-grade, Proper, line}
 use Rattle.theory.specs.Search.{Mark, offer, mark-better}
 use Rattle.theory.specs.Delivery.{hand-by}
 use Rattle.theory.specs.Widest.{label-le, narrow}
-use Rattle.theory.specs.Turning.{slots, slots-outside, net-line, link, as-slots}
+use Rattle.theory.specs.Turning.{slots, slots-outside, link, as-slots}
 use Rattle.theory.specs.declared.labels.Label.{Label}
 use Rattle.theory.specs.declared.labels.Label.the-variants.{Unlimited, Limited}
 use Rattle.theory.proofs.Tests.{none-some}

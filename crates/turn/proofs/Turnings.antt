@@ -1,20 +1,19 @@
 -- The search with both directions added together is the search that turning tells of. Assumes nothing.
 use mathlib.Core.Path.{_≡_, refl, sym, ap, _∙_, fun-ext, subst}
-use mathlib.Core.Bool.{Bool, true, false, cond, not, _&&_}
+use mathlib.Core.Bool.{Bool, true, false, cond}
 use mathlib.Core.List.{List, [], _∷_}
 use mathlib.Core.Option.{Option, none, some}
 use Prim.Native.Nat.{ℕ, _≤_, _<_}
 use native.Mathlib.Omega.{arith}
-use lib.Dec.{eqb, ltb, leb}
+use lib.Dec.{ltb, leb}
 use lib.ListN.{length}
-use Rattle.std.specs.declared.option.Option.{Option as Held}
-use Rattle.std.specs.declared.option.Option.the-variants.{Some, None}
+use Rattle.std.specs.declared.option.Option.the-variants.{None}
 use Rattle.std.proofs.shelf.Tests.{le-leb, and-from, cond-true}
 use Rattle.theory.specs.Arcs.{Arc, stops, Pair, Lines, line}
 use Rattle.theory.specs.Search.{Rule, Mark, State, search, way-in}
-use Rattle.theory.specs.Delivery.{hand-by, line-rule, lines-along, Delivery, told as told-by-mark, best-delivery, Judged-best}
+use Rattle.theory.specs.Delivery.{hand-by, lines-along, told as told-by-mark, best-delivery, Judged-best}
 use Rattle.theory.specs.Widest.{label-le, narrow, widest-search, told-width, as-wide, width-told}
-use Rattle.theory.specs.Turning.{Turn, slots, as-slots, net-line, doubled, number-first, named-from, named, turn-told, turning}
+use Rattle.theory.specs.Turning.{Turn, slots, net-line, doubled, number-first, named-from, named, turn-told, turning}
 use Rattle.theory.specs.declared.labels.Label.{Label}
 use Rattle.theory.specs.declared.labels.Label.the-variants.{Unlimited, Limited}
 use Rattle.theory.proofs.Deliveries.{line-outcome, best-found, bridges-told}
@@ -31,8 +30,8 @@ use Rattle.book.specs.Admission.{admission}
 use Rattle.standing.specs.Standing.{standing, standing-from}
 use Rattle.search.specs.Chains.{Lookup, table-line, numbered, Holds}
 use Rattle.search.specs.Ways.{with-number}
-use Rattle.turn.specs.Doubling.{Row, none-fixed, slot-lines, both-ways, both-rule, slots-at, or-zero}
-use Rattle.turn.specs.Outcomes.{outcome, against, named-by, turn-of, turn-by, state-width, both-search, shown, turned-round, turn-admission, turning-round}
+use Rattle.turn.specs.Doubling.{Row, none-fixed, slot-lines, both-ways, slots-at, or-zero}
+use Rattle.turn.specs.Outcomes.{outcome, named-by, turn-of, turn-by, both-search, shown, turned-round, turn-admission, turning-round}
 use Rattle.turn.proofs.Crossing.{to-slots, line-slots, standing-slots}
 
 first-named : (b : Bool) (o : Option (Arc Slots)) (ks : List ℕ) → cond b (number-first (to-slots o) ks) ks ≡ with-number (cond b (numbered o) None) ks

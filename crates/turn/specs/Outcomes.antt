@@ -1,12 +1,12 @@
 -- What a question for the lines to turn answers, and what it leaves in memory. Assumes nothing.
-use mathlib.Core.Bool.{Bool, true, false, cond, _&&_}
+use mathlib.Core.Bool.{cond, _&&_}
 use mathlib.Core.List.{List, [], _∷_, _++_}
 use mathlib.Core.Option.{Option, none, some}
 use Prim.Native.Nat.{ℕ}
 use lib.Dec.{ltb, leb}
 use lib.ListN.{length, drop}
 use Rattle.std.specs.declared.option.Option.{Option as Held}
-use Rattle.std.specs.declared.option.Option.the-variants.{Some, None}
+use Rattle.std.specs.declared.option.Option.the-variants.{None}
 use Rattle.theory.specs.Arcs.{Arc}
 use Rattle.theory.specs.Search.{State, search, way-in}
 use Rattle.theory.specs.Delivery.{told}

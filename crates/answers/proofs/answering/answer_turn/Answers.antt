@@ -1,7 +1,7 @@
 use mathlib.Core.Path.{_≡_, ap, _∙_}
-use Prim.Native.Nat.{ℕ, _-_, _≤_}
+use Prim.Native.Nat.{_-_}
 use native.Mathlib.Omega.{arith}
-use lib.ListN.{length, take}
+use lib.ListN.{take}
 use Rattle.std.proofs.shelf.Results.{made-weaker}
 use Rattle.replies.specs.Replies.{turn-reply}
 use Rattle.answers.specs.Answers.{tables, bridge-of, blank, in-memory, turned, shown}

@@ -1,5 +1,5 @@
 use borrow.Author.Needs.{needs}
-use mathlib.Core.Path.{_≡_, ap, fun-ext, _∙_}
+use mathlib.Core.Path.{ap, fun-ext, _∙_}
 use mathlib.Core.List.{map}
 use Rattle.search.specs.Chains.{Lookup}
 use Rattle.turn.specs.Doubling.{partner}

@@ -1,10 +1,6 @@
-use mathlib.Core.Path.{_≡_, sym, ap, _∙_}
+use mathlib.Core.Path.{sym, ap, _∙_}
 use lib.Dec.{leb}
-use lib.ListN.{getD}
-use Rattle.std.specs.declared.option.Option.the-variants.{Some}
-use Rattle.theory.specs.Order.{lower}
 use Rattle.theory.specs.Widest.{label-le}
-use Rattle.theory.specs.declared.labels.Label.the-variants.{Limited}
 use Rattle.search.specs.Marks.{marks, offered-to, beats}
 use Rattle.search.proofs.Offers.{offer-lands, offer-stays}
 use Rattle.turn.specs.Doubling.{pair-label-of}

@@ -1,7 +1,7 @@
 use mathlib.Core.Bool.{true, false}
 use mathlib.Core.Path.{ap, _∙_}
 use native.Mathlib.Omega.{arith}
-use lib.ListN.{take, getD, length}
+use lib.ListN.{take, getD}
 use lib.Seq.{take-all, length-take-le}
 use Rattle.std.proofs.shelf.Sums.{sumBy-more}
 use Rattle.grade.specs.Kinds.{slots-of}

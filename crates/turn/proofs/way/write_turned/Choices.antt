@@ -1,7 +1,7 @@
 use mathlib.Core.Path.{_≡_}
 use mathlib.Core.List.{_++_}
 use Prim.Native.Nat.{_≤_}
-use lib.ListN.{length, take, drop}
+use lib.ListN.{take, drop}
 use Rattle.search.specs.Chains.{table-line}
 use Rattle.turn.specs.Outcomes.{named-by}
 use Rattle.turn.proofs.way.write_turned.Given as given

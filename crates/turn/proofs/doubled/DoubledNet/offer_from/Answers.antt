@@ -1,7 +1,5 @@
-use mathlib.Core.Path.{_≡_, sym, subst, fun-ext, _∙_}
-use Prim.Native.Nat.{ℕ, _+_, _<_}
+use mathlib.Core.Path.{sym, fun-ext, _∙_}
 use native.Mathlib.Omega.{arith}
-use lib.ListN.{length}
 use Rattle.search.specs.Marks.{marks}
 use Rattle.turn.specs.Doubling.{pair-label-of}
 use Rattle.turn.proofs.Crossing.{ends-within, crossed}

@@ -111,6 +111,11 @@ impl Network {
         )
     }
 
+    // The slots of all lines.
+    fn load(&mut self) -> Result<u32, Refusal> {
+        turn::load(&self.head, &self.first, &self.lines, &mut self.work)
+    }
+
     // The ring, one line each way between neighbours.
     fn lay_ring(&mut self, dice: &mut Dice) -> Result<(), Refusal> {
         for b in 1..BRIDGES + 1 {
@@ -224,7 +229,8 @@ fn run(rt: &LibcRuntime) -> Result<(), AnyError> {
     let _ = network.lay_ring(&mut dice);
     let _ = network.lay_chords(&mut dice);
     let standing = network.head.standing;
-    println!(rt, "{standing} lines")?;
+    let slots = network.load().unwrap_or(0);
+    println!(rt, "{standing} lines of {slots} slots")?;
     let start = Instant::now(rt)?;
     let tally = network.ask(&mut dice);
     let span = start.elapsed(rt)?;

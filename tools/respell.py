@@ -44,7 +44,11 @@ def defined(root):
         for line in read(path).split("\n"):
             if line.strip() and not line.startswith((" ", "\t")):
                 in_record = bool(re.match(r"(?:pub |abbrev )*(?:record|data) ", line)) and line.rstrip().endswith("where")
-            if line.lstrip().startswith(("--", "use ", "unfolding ")):
+            if line.lstrip().startswith(("--", "unfolding ")):
+                continue
+            if line.lstrip().startswith("use "):
+                for name in re.findall(r" as (" + NAME + r")", line):
+                    kinds.setdefault(name, set()).add("type" if name[0].isupper() else "function")
                 continue
             m = DEFINED.match(line)
             if not m or m.group(3) in ("where", "let", "in", "module"):
@@ -59,6 +63,11 @@ def defined(root):
             else:
                 kind = "lemma"
             kinds.setdefault(name, set()).add(kind)
+    for path in files(root, (".rt",)):
+        for line in read(path).split("\n"):
+            if line.startswith("ghost use "):
+                for name in re.findall(r" as (" + NAME + r")", line):
+                    kinds.setdefault(name, set()).add("type" if name[0].isupper() else "function")
     return kinds
 
 

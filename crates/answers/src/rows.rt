@@ -2,7 +2,7 @@
 ghost use Rattle.std.specs.Prelude.{◌≡◌, ℕ, ◌+◌, ◌<◌, length};
 ghost use Rattle.theory.specs.Arcs.{numbered as line_of};
 ghost use Rattle.standing.specs.Standing.{standing_from};
-ghost use Rattle.answers.specs.Answers.{is_there, slots_at, row as told-row, rows as told-rows};
+ghost use Rattle.answers.specs.Answers.{is_there, slots_at, row as told_row, rows as told_rows};
 
 use book::Line;
 use grade::Slots;
@@ -32,7 +32,7 @@ fn slots_at(end: Option<Slots>) -> Option<u32>
 
 // What is told of one slot.
 fn row(stands: bool, margin: Margin<Slots>) -> LineMargin
-    ensures { result ≡ told-row stands margin }
+    ensures { result ≡ told_row stands margin }
 {
     LineMargin {
         stands,
@@ -44,7 +44,7 @@ fn row(stands: bool, margin: Margin<Slots>) -> LineMargin
 // What is told of every slot.
 pub fn write_rows(lines: &[Line<Slots>], margins: &[Margin<Slots>], table: &mut [LineMargin])
     requires { (length table.old ≡ length margins.now) × (length table.old < 65535) }
-    ensures { table.new ≡ told-rows (λ k. is_there (line_of (standing_from 1 lines.now) k)) 1 margins.now }
+    ensures { table.new ≡ told_rows (λ k. is_there (line_of (standing_from 1 lines.now) k)) 1 margins.now }
 {
     for place in 0..table.len() {
         let number = (place + 1) as u16;

@@ -3,7 +3,7 @@ use Rattle.std.specs.Prelude.{ℕ, suc, Bool, cond, List, [], ◌∷◌, Some, N
 use Rattle.std.proofs.Math.Option.{Option, none, some}
 use Rattle.grade.specs.Told.{Reply, answers, refused}
 use Rattle.theory.specs.Arcs.{Arc, numbered}
-use Rattle.theory.specs.Margins.{Margin as Ends-of}
+use Rattle.theory.specs.Margins.{Margin as EndsOf}
 use Rattle.theory.specs.Verdicts.{Verdict, no_route, outdone, accepted}
 use Rattle.book.specs.declared.memory.Line.{Line}
 use Rattle.standing.specs.Standing.{arc}
@@ -15,7 +15,7 @@ as_told None = none
 as_told (Some g) = some g
 
 -- how the code holds a margin
-abbrev pub as_margin : {G : Type 0} → Ends-of G → Margin G
+abbrev pub as_margin : {G : Type 0} → EndsOf G → Margin G
 as_margin m = record { low = as_held m.low; high = as_held m.high }
 
 -- a free slot's record stays, and a standing line's is its margin

@@ -1,7 +1,7 @@
 // The route that a list of line numbers gives: its two ends and its width.
 ghost use Rattle.std.specs.Prelude.{◌≡◌, ℕ, ◌≤◌, [], map, length};
 ghost use Rattle.theory.specs.Lists.{among};
-ghost use Rattle.theory.specs.Arcs.{numbered, all_numbered, width as width-along};
+ghost use Rattle.theory.specs.Arcs.{numbered, all_numbered, width as width_along};
 ghost use Rattle.theory.specs.Delivery.{with_line};
 ghost use Rattle.theory.specs.Margins.{without};
 ghost use Rattle.margins.specs.Standing.{standing};
@@ -95,7 +95,7 @@ pub fn route_ends<G: Grade>(lines: &[Line<G>], numbers: &[u16]) -> Option<Ends>
 
 // The lower of the grade so far and that of one line, unless it is the one left out; the grade so far where alike.
 fn lowered<G: Grade>(lines: &[Line<G>], number: u16, skip: u16, so_far: Option<G>) -> Option<G>
-    ensures { result ≡ lowest_with le so_far (without (with_line (numbered (standing lines.now) number) []) skip) }
+    ensures { result ≡ lowest_with G.le so_far (without (with_line (numbered (standing lines.now) number) []) skip) }
 {
     let Some(line) = standing_at(lines, number) else {
         return so_far;
@@ -115,7 +115,7 @@ fn lowered<G: Grade>(lines: &[Line<G>], number: u16, skip: u16, so_far: Option<G
 
 // The lowest grade of the lines but for the one left out, the first along them where alike.
 pub fn lowest_but<G: Grade>(lines: &[Line<G>], numbers: &[u16], skip: u16) -> Option<G>
-    ensures { result ≡ as_held (width-along le (without (picked (standing lines.now) numbers.now) skip)) }
+    ensures { result ≡ as_held (width_along G.le (without (picked (standing lines.now) numbers.now) skip)) }
 {
     let mut lowest = None;
     for at in 0..numbers.len() {

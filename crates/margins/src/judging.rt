@@ -21,7 +21,7 @@ fn tell_margins<G: Grade>(asked: &Asked<'_, G>, work: &mut [u16], out: &mut [Mar
     requires sound { Sound asked.now }
     requires work { 5 * asked.now.n + 5 ≤ length work.old }
     requires out { length asked.now.lines.now ≤ length out.old }
-    ensures { out.new ≡ margins_in (margin_told le asked.now) 1 asked.now.lines.now out.old }
+    ensures { out.new ≡ margins_in (margin_told G.le asked.now) 1 asked.now.lines.now out.old }
 {
     let places = asked.n as usize + 1;
     let (reached, rest) = work.split_at_mut(places);
@@ -62,7 +62,7 @@ pub fn judge<'a, G: Grade>(
     requires few { length lines.now < 65535 }
     requires work { 8 * n ≤ length work.old }
     requires out { length lines.now ≤ length out.old }
-    ensures { (told (λ _. tt) result, out.new) ≡ verdict_told (margins_of le n (standing lines.now) numbers.now) (standing lines.now) out.old }
+    ensures { (told (λ _. tt) result, out.new) ≡ verdict_told (margins_of G.le n (standing lines.now) numbers.now) (standing lines.now) out.old }
 {
     let Some(ends) = route_ends(lines, numbers) else {
         return Err(Refusal::NotARoute);

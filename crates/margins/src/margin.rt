@@ -1,7 +1,7 @@
 // The margin of each line.
 ghost use Rattle.std.specs.Prelude.{◌≡◌, ℕ, ◌+◌, ◌*◌, ◌<◌, ◌≤◌, true, false, ◌&&◌, List, length, ◌==◌, slice_index_or, slice_set};
 ghost use Rattle.theory.specs.Lists.{among, Each};
-ghost use Rattle.theory.specs.Arcs.{Arc, Lines, Proper, width as width-along};
+ghost use Rattle.theory.specs.Arcs.{Arc, Lines, Proper, width as width_along};
 ghost use Rattle.theory.specs.Widest.{best_width};
 ghost use Rattle.theory.specs.Reach.{reaches};
 ghost use Rattle.theory.specs.Margins.{without, limit_reached};
@@ -53,7 +53,7 @@ fn is_reached<G: Grade>(
     requires work { 3 * tables.now.n + 3 ≤ length work.old }
     requires from { (1 ≤ from) × (from ≤ tables.now.n) }
     requires to { (1 ≤ to) × (to ≤ tables.now.n) }
-    ensures { (arcs : List (Arc G)) → Holds tables.now.n tables.now.first.now tables.now.lines.now arcs → Lines tables.now.n arcs → result ≡ reaches le tables.now.n (without arcs tables.now.skip) bar from to }
+    ensures { (arcs : List (Arc G)) → Holds tables.now.n tables.now.first.now tables.now.lines.now arcs → Lines tables.now.n arcs → result ≡ reaches G.le tables.now.n (without arcs tables.now.skip) bar from to }
 {
     if from == to {
         return true;
@@ -79,7 +79,7 @@ fn high_end<G: Grade>(
     requires start { (1 ≤ start) × (start ≤ tables.now.n) }
     requires end { (1 ≤ end) × (end ≤ tables.now.n) }
     requires line { Proper tables.now.n (arc 0 line) }
-    ensures { (arcs : List (Arc G)) → Holds tables.now.n tables.now.first.now tables.now.lines.now arcs → Lines tables.now.n arcs → result ≡ as_held (limit_reached le tables.now.n (without arcs tables.now.skip) start end (arc 0 line) (as_told limit)) }
+    ensures { (arcs : List (Arc G)) → Holds tables.now.n tables.now.first.now tables.now.lines.now arcs → Lines tables.now.n arcs → result ≡ as_held (limit_reached G.le tables.now.n (without arcs tables.now.skip) start end (arc 0 line) (as_told limit)) }
 {
     let Some(bar) = limit else {
         return None;
@@ -97,7 +97,7 @@ fn high_end<G: Grade>(
 fn width_without<G: Grade>(asked: &Asked<'_, G>, omitted: u16, work: &mut [u16]) -> Option<G>
     requires sound { Sound asked.now }
     requires work { 3 * asked.now.n + 3 ≤ length work.old }
-    ensures { result ≡ as_held (best_width le (without (standing asked.now.lines.now) omitted) asked.now.n asked.now.start asked.now.end) }
+    ensures { result ≡ as_held (best_width G.le (without (standing asked.now.lines.now) omitted) asked.now.n asked.now.start asked.now.end) }
 {
     let tables = Tables {
         n: asked.n,
@@ -110,7 +110,7 @@ fn width_without<G: Grade>(asked: &Asked<'_, G>, omitted: u16, work: &mut [u16])
 
 // The lowest grade of the route's other lines, the first along it where alike.
 fn limit_without<G: Grade>(asked: &Asked<'_, G>, number: u16) -> Option<G>
-    ensures { result ≡ as_held (width-along le (without (picked (standing asked.now.lines.now) asked.now.numbers.now) number)) }
+    ensures { result ≡ as_held (width_along G.le (without (picked (standing asked.now.lines.now) asked.now.numbers.now) number)) }
 {
     lowest_but(asked.lines, asked.numbers, number)
 }
@@ -125,7 +125,7 @@ fn margin_on<G: Grade>(
     requires sound { Sound asked.now }
     requires line { Proper asked.now.n (arc number line) }
     requires work { 3 * asked.now.n + 3 ≤ length work.old }
-    ensures { result ≡ margin_if le asked.now (arc number line) true }
+    ensures { result ≡ margin_if G.le asked.now (arc number line) true }
 {
     let low = width_without(asked, number, work);
     let limit = limit_without(asked, number);
@@ -160,11 +160,11 @@ fn margin_of<G: Grade>(
     work: &mut [u16],
 ) -> Margin<G>
     requires sound { Sound asked.now }
-    requires reached { Reached le asked.now (takens reached.now) }
-    requires reaching { Reaching le asked.now (takens reaching.now) }
+    requires reached { Reached G.le asked.now (takens reached.now) }
+    requires reaching { Reaching G.le asked.now (takens reaching.now) }
     requires line { Proper asked.now.n (arc number line) }
     requires work { 3 * asked.now.n + 3 ≤ length work.old }
-    ensures { result ≡ margin_told le asked.now (arc number line) }
+    ensures { result ≡ margin_told G.le asked.now (arc number line) }
 {
     if is_listed(asked.numbers, number) {
         margin_on(asked, number, line, work)
@@ -184,11 +184,11 @@ fn margin_or<G: Grade>(
     old: Margin<G>,
 ) -> Margin<G>
     requires sound { Sound asked.now }
-    requires reached { Reached le asked.now (takens reached.now) }
-    requires reaching { Reaching le asked.now (takens reaching.now) }
+    requires reached { Reached G.le asked.now (takens reached.now) }
+    requires reaching { Reaching G.le asked.now (takens reaching.now) }
     requires line { (line.near == 0) ≡ false → Proper asked.now.n (arc number line) }
     requires work { 3 * asked.now.n + 3 ≤ length work.old }
-    ensures { result ≡ record_of (margin_told le asked.now) number line old }
+    ensures { result ≡ record_of (margin_told G.le asked.now) number line old }
 {
     if line.near == 0 {
         return old;
@@ -221,11 +221,11 @@ pub fn write_margins<G: Grade>(
     out: &mut [Margin<G>],
 )
     requires sound { Sound asked.now }
-    requires reached { Reached le asked.now (takens reached.now) }
-    requires reaching { Reaching le asked.now (takens reaching.now) }
+    requires reached { Reached G.le asked.now (takens reached.now) }
+    requires reaching { Reaching G.le asked.now (takens reaching.now) }
     requires work { 3 * asked.now.n + 3 ≤ length work.old }
     requires out { length asked.now.lines.now ≤ length out.old }
-    ensures { out.new ≡ margins_in (margin_told le asked.now) 1 asked.now.lines.now out.old }
+    ensures { out.new ≡ margins_in (margin_told G.le asked.now) 1 asked.now.lines.now out.old }
 {
     for place in 0..asked.lines.len() {
         let Some(line) = slot_at(asked.lines, place) else {

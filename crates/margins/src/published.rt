@@ -18,7 +18,7 @@ pub fn margins<G: Grade>(
     numbers: &[u16],
     out: &mut [Margin<G>],
 ) -> Result<(), Refusal>
-    ensures { (told (λ _. tt) result, out.new) ≡ margins_asked le (memory head.now first.now lines.now) (length work.old) numbers.now out.old }
+    ensures { (told (λ _. tt) result, out.new) ≡ margins_asked G.le (memory head.now first.now lines.now) (length work.old) numbers.now out.old }
 {
     if out.len() < usize::from(head.slots) {
         return Err(Refusal::MemoryTooShort);

@@ -52,7 +52,7 @@ pub fn is_marked(marked: &[u16], bridge: u16) -> bool
 
 // Whether a line leads on from what is marked.
 fn leads_on<G: Grade>(line: Line<G>, way: Direction, bar: G, marked: &[u16]) -> bool
-    ensures { result ≡ steps le bar way (takens marked.now) line }
+    ensures { result ≡ steps G.le bar way (takens marked.now) line }
 {
     if line.near == 0 {
         return false;
@@ -72,7 +72,7 @@ fn spread<G: Grade>(
     spreading: &mut [u16],
 )
     requires { Each (λ e. pick way e.far e.near < length spreading.old) (standing lines.now) }
-    ensures { (b : ℕ) → takens spreading.new b ≡ (takens spreading.old b || leads le bar (takens marked.now) (faced way (standing lines.now)) b) }
+    ensures { (b : ℕ) → takens spreading.new b ≡ (takens spreading.old b || leads G.le bar (takens marked.now) (faced way (standing lines.now)) b) }
 {
     for place in 0..lines.len() {
         let Some(line) = slot_at(lines, place) else {
@@ -105,7 +105,7 @@ pub fn mark_reached<G: Grade>(
     requires from { from ≤ n }
     requires marked { length marked.old ≡ n + 1 }
     requires spare { n + 1 ≤ length spare.old }
-    ensures { (b : ℕ) → takens marked.new b ≡ marks le (faced way (standing lines.now)) bar from n b }
+    ensures { (b : ℕ) → takens marked.new b ≡ marks G.le (faced way (standing lines.now)) bar from n b }
 {
     let (spreading, _) = spare.split_at_mut(n as usize + 1);
     clear(marked);

@@ -2,17 +2,17 @@
 use Rattle.std.proofs.Common.{◌≡◌, ℕ, zero, suc, ◌≤◌, Bool, true, false, cond, List, get_or, Some, None, Option as Held, sym, refl, ap, ◌∙◌, arith, MatchOption}
 use mathlib.Core.Option.{Option, none, some}
 use Rattle.theory.specs.Order.{better}
-use Rattle.theory.specs.Search.{Mark, State, best, choose, Choice as Chosen-mark}
+use Rattle.theory.specs.Search.{Mark, State, best, choose, Choice as ChosenMark}
 use Rattle.search.specs.declared.choice.Choice.{Choice}
 use Rattle.search.specs.Marks.{mark_of, state_of, takens}
 use Rattle.search.specs.Choices.{choice, forget, pick, Chosen, Choosing}
 
-forget-cond : {X : Type 0} (b : Bool) (x y : Option (Chosen-mark X)) → forget (cond b x y) ≡ cond b (forget x) (forget y)
+forget-cond : {X : Type 0} (b : Bool) (x y : Option (ChosenMark X)) → forget (cond b x y) ≡ cond b (forget x) (forget y)
 forget-cond true x y = refl
 forget-cond false x y = refl
 
 -- the code's choice is the search's
-pub forget-choose : {X : Type 0} (le : X → X → Bool) (i : ℕ) (t : Bool) (x : Held X) (w : ℕ) (c : Option (Chosen-mark X)) → forget (choose le i t (mark_of x w) c) ≡ pick le i t x (forget c)
+pub forget-choose : {X : Type 0} (le : X → X → Bool) (i : ℕ) (t : Bool) (x : Held X) (w : ℕ) (c : Option (ChosenMark X)) → forget (choose le i t (mark_of x w) c) ≡ pick le i t x (forget c)
 forget-choose le i true x w c = refl
 forget-choose le i false None w c = refl
 forget-choose le i false (Some x) w none = refl

@@ -10,7 +10,7 @@ use Rattle.theory.proofs.Lists.{each_of}
 use Rattle.theory.proofs.Lines.{line_in, line_of}
 use Rattle.book.specs.declared.memory.Line.{Line}
 use Rattle.book.specs.Memory.{Memory}
-use Rattle.book.specs.Chains.{at, chain as slots-from}
+use Rattle.book.specs.Chains.{at, chain as slots_from}
 use Rattle.book.specs.Lawful.{nears, fars, nexts, other_bridge, lawful}
 use Rattle.book.proofs.Walks.{chain_end, chain_out, chain_spent, chain-step}
 use Rattle.book.proofs.Leads.{clash, same_chain, split_before, other_bridge_within}
@@ -50,7 +50,7 @@ module _ {G : Type 0} (lines : List (Line G)) where
   chain-zero (suc k) = refl
 
   -- a chain of slots that is not broken is the chain of the lines in them
-  chain-arcs : (k i : ℕ) (c : List ℕ) → slots-from (nexts lines) k i ≡ some c → chain lines k i ≡ arcs_on lines c
+  chain-arcs : (k i : ℕ) (c : List ℕ) → slots_from (nexts lines) k i ≡ some c → chain lines k i ≡ arcs_on lines c
   chain-arcs zero i c e = ⊎_elim
       (λ z. ap (arcs_on lines) (same_chain _ [] c (chain_end (nexts lines) 0 i z) e))
       (λ ne. absurd (clash _ c (chain_spent (nexts lines) 0 i refl (omega (arith, ne))) e))
@@ -59,7 +59,7 @@ module _ {G : Type 0} (lines : List (Line G)) where
   chain-arcs (suc k) (suc j) c e = ⊎_elim
       (λ out. absurd (clash _ c (chain_out (nexts lines) (suc k) (suc j) out) e))
       (λ within.
-      let s = split_before (suc j) (slots-from (nexts lines) k (at (nexts lines) (suc j))) c (sym (chain-step (nexts lines) k (suc j) (omega arith) within) ∙ e) in
+      let s = split_before (suc j) (slots_from (nexts lines) k (at (nexts lines) (suc j))) c (sym (chain-step (nexts lines) k (suc j) (omega arith) within) ∙ e) in
       let l = line_there lines (suc j) (omega arith) (omega (arith, within, length-map lines (λ l. l.next))) in
       ap (linked (suc j) (chain lines k)) l.1
       ∙ ap (λ (i : ℕ). arc (suc j) l.0 ∷ chain lines k i) (sym (at_part (λ l. l.next) lines (suc j) l.0 l.1))

@@ -1,7 +1,7 @@
 -- One turn of the search, by the choice as the code holds it. Assumes nothing.
 use Rattle.std.proofs.Common.{◌≡◌, ℕ, suc, Bool, true, false, eqb, Some, None, Option as Held, sym, refl, ap, ◌∙◌}
 use mathlib.Core.Option.{Option, none, some}
-use Rattle.theory.specs.Search.{Mark, State, Rule, best, turn, turn_at, take_end, take_bridge, search_from, Choice as Chosen-mark}
+use Rattle.theory.specs.Search.{Mark, State, Rule, best, turn, turn_at, take_end, take_bridge, search_from, Choice as ChosenMark}
 use Rattle.search.specs.declared.choice.Choice.{Choice}
 use Rattle.search.specs.Choices.{forget}
 
@@ -10,7 +10,7 @@ module _ {X : Type 0} (le : X → X → Bool) (rule : Rule X) (n z : ℕ) where
   turned go s None = s
   turned go s (Some c) = turn_at le rule z go s c.bridge c.label (eqb c.bridge z)
 
-  turn-forget : (go : State X → State X) (s : State X) (c : Option (Chosen-mark X)) → turn le rule z go s c ≡ turned go s (forget c)
+  turn-forget : (go : State X → State X) (s : State X) (c : Option (ChosenMark X)) → turn le rule z go s c ≡ turned go s (forget c)
   turn-forget go s none = refl
   turn-forget go s (some c) = refl
 

@@ -2,14 +2,14 @@
 use Rattle.std.specs.Prelude.{◌≡◌, ℕ, ◌≤◌, Bool, true, false, cond, List, IfSome, Some, None, Option as Held, slice_index}
 use Rattle.std.proofs.Math.Option.{Option, none, some}
 use Rattle.theory.specs.Order.{better}
-use Rattle.theory.specs.Search.{Choice as Chosen-mark}
+use Rattle.theory.specs.Search.{Choice as ChosenMark}
 use Rattle.search.specs.declared.choice.Choice.{Choice}
 
 abbrev pub choice : {X : Type 0} → ℕ → X → Choice X
 choice i x = record { bridge = i; label = x }
 
 -- a choice of the search without the chosen bridge's way in
-abbrev pub forget : {X : Type 0} → Option (Chosen-mark X) → Held (Choice X)
+abbrev pub forget : {X : Type 0} → Option (ChosenMark X) → Held (Choice X)
 forget none = None
 forget (some c) = Some (choice c.bridge c.mark.label)
 

@@ -1,6 +1,6 @@
 // The untaken labelled bridge of best label, the lowest number among those alike.
 ghost use Rattle.std.specs.Prelude.{◌≡◌, ℕ, ◌<◌, ◌≤◌, not, List, length, ◌==◌};
-ghost use Rattle.theory.specs.Search.{best as best-mark};
+ghost use Rattle.theory.specs.Search.{best as best_mark};
 ghost use Rattle.search.specs.Marks.{state_of};
 ghost use Rattle.search.specs.Choices.{pick, forget, Choosing};
 
@@ -36,7 +36,7 @@ fn choose<N: Net>(
 // The best among bridges 1 to n.
 pub fn best<N: Net>(net: &N, labels: &[u16], taken: &[u16], n: u16) -> Option<Choice<N::Label>>
     requires { (n < length labels.now) × (n < length taken.now) }
-    ensures picks { (ways : List ℕ) → result ≡ forget (best-mark N.Net.le (state_of (N.Net.read net.now) labels.now ways taken.now) n) }
+    ensures picks { (ways : List ℕ) → result ≡ forget (best_mark N.Net.le (state_of (N.Net.read net.now) labels.now ways taken.now) n) }
     ensures within { Choosing (N.Net.read net.now) labels.now n result }
 {
     let mut chosen = None;

@@ -41,7 +41,7 @@ pub fn label_of<G: Grade>(lines: &[Line<G>], number: u16) -> Option<Label<G>>
 
 // Whether a label is at most another.
 pub fn label_at_most<G: Grade>(a: Label<G>, b: Label<G>) -> bool
-    ensures { result ≡ label_le le a b }
+    ensures { result ≡ label_le G.le a b }
 {
     match a {
         Label::Unlimited => match b {

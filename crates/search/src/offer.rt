@@ -25,7 +25,7 @@ pub struct Numbered<G> {
 
 // What a line of this number and grade hands on of a label: the lower of the two, the label where they rank alike.
 fn hand_down<G: Grade>(held: Numbered<G>, number: u16, grade: G) -> Numbered<G>
-    ensures label { result.label ≡ lower (label_le le) held.label (Limited grade) }
+    ensures label { result.label ≡ lower (label_le G.le) held.label (Limited grade) }
     ensures number { (read : ℕ → Held (Reached G)) → read held.number ≡ Some held.label → read number ≡ Some (Limited grade) → read result.number ≡ Some result.label }
 {
     let own = Label::Limited(grade);
@@ -38,7 +38,7 @@ fn hand_down<G: Grade>(held: Numbered<G>, number: u16, grade: G) -> Numbered<G>
 
 // Whether a label is better than one that may be absent.
 fn improves<G: Grade>(label: Label<G>, own: Option<Label<G>>) -> bool
-    ensures { result ≡ beats (label_le le) label own }
+    ensures { result ≡ beats (label_le G.le) label own }
 {
     match own {
         None => true,
@@ -57,7 +57,7 @@ fn offer_label<G: Grade>(
 )
     requires label { to < length labels.old }
     requires way { to < length ways.old }
-    ensures { (read : ℕ → Held (Reached G)) → read (slice_index labels.old to) ≡ own → read offer.number ≡ Some offer.label → marks read labels.new ways.new ≡ offered_to (label_le le) from offer.label to (marks read labels.old ways.old) }
+    ensures { (read : ℕ → Held (Reached G)) → read (slice_index labels.old to) ≡ own → read offer.number ≡ Some offer.label → marks read labels.new ways.new ≡ offered_to (label_le G.le) from offer.label to (marks read labels.old ways.old) }
 {
     if improves(offer.label, own) {
         let at = to as usize;
@@ -80,7 +80,7 @@ fn offer_line<G: Grade>(
     requires line { line_at lines.now slot ≡ Some line }
     requires label { line.far < length labels.old }
     requires way { line.far < length ways.old }
-    ensures { marks (label_of lines.now) labels.new ways.new ≡ offered (label_le le) (narrow le) from held.label (arc slot line) (marks (label_of lines.now) labels.old ways.old) }
+    ensures { marks (label_of lines.now) labels.new ways.new ≡ offered (label_le G.le) (narrow G.le) from held.label (arc slot line) (marks (label_of lines.now) labels.old ways.old) }
 {
     let own = label_of(lines, labels[line.far as usize]);
     let offer = hand_down(held, slot, line.grade);
@@ -102,7 +102,7 @@ fn offer_unless<G: Grade>(
     requires line { line_at lines.now slot ≡ Some line }
     requires label { line.far < length labels.old }
     requires way { line.far < length ways.old }
-    ensures { marks (label_of lines.now) labels.new ways.new ≡ offered_all (label_le le) (narrow le) from held.label (without (arc slot line ∷ []) skip) (marks (label_of lines.now) labels.old ways.old) }
+    ensures { marks (label_of lines.now) labels.new ways.new ≡ offered_all (label_le G.le) (narrow G.le) from held.label (without (arc slot line ∷ []) skip) (marks (label_of lines.now) labels.old ways.old) }
 {
     if slot == skip {
         return;
@@ -123,7 +123,7 @@ pub fn offer_chain<G: Grade>(
     requires held { label_of lines.now held.number ≡ Some held.label }
     requires within { Each (λ e. e.far < length labels.old) (chain lines.now (length lines.now) first) }
     requires alike { length ways.old ≡ length labels.old }
-    ensures { marks (label_of lines.now) labels.new ways.new ≡ offered_all (label_le le) (narrow le) from held.label (without (chain lines.now (length lines.now) first) skip) (marks (label_of lines.now) labels.old ways.old) }
+    ensures { marks (label_of lines.now) labels.new ways.new ≡ offered_all (label_le G.le) (narrow G.le) from held.label (without (chain lines.now (length lines.now) first) skip) (marks (label_of lines.now) labels.old ways.old) }
 {
     let mut slot = first;
     for _step in 0..lines.len() {

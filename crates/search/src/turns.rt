@@ -1,6 +1,6 @@
 // The search itself: turn after turn, the bridge of best label is taken.
 ghost use Rattle.std.specs.Prelude.{◌≡◌, ℕ, ◌+◌, ◌<◌, ◌≤◌, length, Some, None, slice_index};
-ghost use Rattle.theory.specs.Search.{take_bridge, search_from, search as whole-search};
+ghost use Rattle.theory.specs.Search.{take_bridge, search_from, search as whole_search};
 ghost use Rattle.search.specs.Marks.{state_of};
 
 use crate::begin::begin;
@@ -77,7 +77,7 @@ pub fn run_search<N: Net>(
     requires start { start ≤ n }
     requires end { end ≤ n }
     requires none { N.Net.read net.now 0 ≡ None }
-    ensures { (x : _) → N.Net.read net.now top ≡ Some x → state_of (N.Net.read net.now) labels.new ways.new taken.new ≡ whole-search N.Net.le (N.Net.rule net.now) n start x end }
+    ensures { (x : _) → N.Net.read net.now top ≡ Some x → state_of (N.Net.read net.now) labels.new ways.new taken.new ≡ whole_search N.Net.le (N.Net.rule net.now) n start x end }
 {
     begin(labels, ways, taken, start, top);
     run_turns(net, labels, ways, taken, n, end);

@@ -46,7 +46,7 @@ pub fn best_width<G: Grade>(
     requires work { 3 * tables.now.n + 3 ≤ length work.old }
     requires start { start ≤ tables.now.n }
     requires end { end ≤ tables.now.n }
-    ensures { (arcs : List (Arc G)) → Holds tables.now.n tables.now.first.now tables.now.lines.now arcs → AllApart arcs → result ≡ as_held (best_width le (without arcs tables.now.skip) tables.now.n start end) }
+    ensures { (arcs : List (Arc G)) → Holds tables.now.n tables.now.first.now tables.now.lines.now arcs → AllApart arcs → result ≡ as_held (best_width G.le (without arcs tables.now.skip) tables.now.n start end) }
 {
     let places = tables.n as usize + 1;
     let (labels, rest) = work.split_at_mut(places);

@@ -5,7 +5,7 @@ use mathlib.Core.Option.{Option, none, some}
 use Rattle.std.proofs.lemmas.Bool.{le-leb, and_from, cond-true}
 use Rattle.theory.specs.Arcs.{Arc, stops, Pair, Lines, line}
 use Rattle.theory.specs.Search.{Rule, Mark, State, search, way_in}
-use Rattle.theory.specs.Delivery.{hand_by, lines_along, told as told-by-mark, best_delivery, JudgedBest}
+use Rattle.theory.specs.Delivery.{hand_by, lines_along, told as told_by_mark, best_delivery, JudgedBest}
 use Rattle.theory.specs.Widest.{label_le, narrow, widest_search, told_width, as_wide, width_told}
 use Rattle.theory.specs.Turning.{Turn, slots, net_line, doubled, number_first, named_from, named, turn_told, turning}
 use Rattle.theory.specs.declared.labels.Label.{Label}
@@ -67,7 +67,7 @@ module _ (n : ℕ) (lines : List Row) (ls : Lines n (standing_from 1 lines)) whe
 
     -- a route that is found is told with its bridges
     delivered : (m : Mark (Label ℕ)) → s.taken z ≡ true → s.mark z ≡ some m → best_delivery (label_le leb) (narrow leb) D n a Unlimited z ≡ some (record { label = m.label; lines = lines_along D a row })
-    delivered m e q = ap (λ t. told-by-mark t (s.mark z) (lines_along D a row)) e ∙ ap (λ o. told-by-mark true o (lines_along D a row)) q
+    delivered m e q = ap (λ t. told_by_mark t (s.mark z) (lines_along D a row)) e ∙ ap (λ o. told_by_mark true o (lines_along D a row)) q
 
     over_row : (m : Mark (Label ℕ)) → s.taken z ≡ true → s.mark z ≡ some m → stops a (lines_along D a row) ≡ a ∷ row
     over_row m e q =
@@ -93,7 +93,7 @@ module _ (n : ℕ) (lines : List Row) (ls : Lines n (standing_from 1 lines)) whe
             ap (λ (ks : List ℕ). some (record { width = w; bridges = a ∷ row; lines = ks })) (sym (named_same lines w a row))
             ∙ ap (λ (bs : List ℕ). some (record { width = w; bridges = bs; lines = named S w bs })) (sym over)
 
-        go : (t : Bool) → s.taken z ≡ t → (m : Option (Mark (Label ℕ))) → s.mark z ≡ m → turn_of lines (line (standing_from 1 lines)) a row (width_told (as_wide (told-by-mark {G = ℕ} t m []))) ≡ turn_told S a (as_wide (told-by-mark t m (lines_along D a row)))
+        go : (t : Bool) → s.taken z ≡ t → (m : Option (Mark (Label ℕ))) → s.mark z ≡ m → turn_of lines (line (standing_from 1 lines)) a row (width_told (as_wide (told_by_mark {G = ℕ} t m []))) ≡ turn_told S a (as_wide (told_by_mark t m (lines_along D a row)))
         go false e m q = refl
         go true e none q = refl
         go true e (some m) q = told_limit m.label (over_row m e q)

@@ -1,7 +1,7 @@
 use Rattle.std.proofs.Common.{◌≡◌, sym, refl, ap, ◌∙◌, arith}
 use mathlib.Core.Option.{Option, none, some}
 use Rattle.grade.specs.Told.{answers}
-use Rattle.theory.specs.Arcs.{width as width-along}
+use Rattle.theory.specs.Arcs.{width as width_along}
 use Rattle.theory.specs.Widest.{best_width}
 use Rattle.theory.specs.Margins.{without}
 use Rattle.theory.specs.Verdicts.{verdict_on, accepted}
@@ -22,7 +22,7 @@ returns-in-default-lowest-but g c =
     let le = g.G.Grade.le in
     let lines = c.args.lines.now in
     let ks = c.args.numbers.now in
-    let wide = ap (width-along le) (sym (picked-whole lines ks)) ∙ held_told _ _ c.in-default-lowest-but.ensures in
+    let wide = ap (width_along le) (sym (picked-whole lines ks)) ∙ held_told _ _ c.in-default-lowest-but.ensures in
     sym (ap (λ v. verdict_told v (standing lines) c.args.out.now) (verdict_by le c.args.n (standing lines) ks (c.in-Some.ends.start, c.in-Some.ends.end) c.in-Some.ensures none _ wide refl))
 
 pub best-width-requires : goal.best-width-requires
@@ -37,7 +37,7 @@ returns-in-default-best-width g c =
     let ks = c.args.numbers.now in
     let ends = c.in-Some.ends in
     let w = c.in-Some-lowest-but.width in
-    let wide = ap (width-along le) (sym (picked-whole lines ks)) ∙ held_told _ _ c.in-Some-lowest-but.ensures in
+    let wide = ap (width_along le) (sym (picked-whole lines ks)) ∙ held_told _ _ c.in-Some-lowest-but.ensures in
     let best = ap (λ xs. best_width le xs c.args.n ends.start ends.end) (sym (without_none 0 lines)) ∙ held_told _ _ (c.in-default-best-width.ensures (standing lines) c.requires.holds c.requires.proper.apart) in
     sym (ap (λ v. verdict_told v (standing lines) c.args.out.now) (verdict_by le c.args.n (standing lines) ks (ends.start, ends.end) c.in-Some.ensures (some w) none wide best))
 
@@ -49,7 +49,7 @@ returns-then-not-at-most g c =
     let ends = c.in-Some.ends in
     let w = c.in-Some-lowest-but.width in
     let v = c.in-Some-best-width.best in
-    let wide = ap (width-along le) (sym (picked-whole lines ks)) ∙ held_told _ _ c.in-Some-lowest-but.ensures in
+    let wide = ap (width_along le) (sym (picked-whole lines ks)) ∙ held_told _ _ c.in-Some-lowest-but.ensures in
     let best = ap (λ xs. best_width le xs c.args.n ends.start ends.end) (sym (without_none 0 lines)) ∙ held_told _ _ (c.in-Some-best-width.ensures (standing lines) c.requires.holds c.requires.proper.apart) in
     sym (ap (λ r. verdict_told r (standing lines) c.args.out.now)
     (verdict_by le c.args.n (standing lines) ks (ends.start, ends.end) c.in-Some.ensures (some w) (some v) wide best
@@ -72,7 +72,7 @@ returns g c =
     let ends = c.in-Some.ends in
     let w = c.in-Some-lowest-but.width in
     let v = c.in-Some-best-width.best in
-    let wide = ap (width-along le) (sym (picked-whole lines ks)) ∙ held_told _ _ c.in-Some-lowest-but.ensures in
+    let wide = ap (width_along le) (sym (picked-whole lines ks)) ∙ held_told _ _ c.in-Some-lowest-but.ensures in
     let best = ap (λ xs. best_width le xs c.args.n ends.start ends.end) (sym (without_none 0 lines)) ∙ held_told _ _ (c.in-Some-best-width.ensures (standing lines) c.requires.holds c.requires.proper.apart) in
     let verdict =
     verdict_by le c.args.n (standing lines) ks (ends.start, ends.end) c.in-Some.ensures (some w) (some v) wide best

@@ -19,7 +19,7 @@ loop-round-preserved g c =
     ap (λ s. takens s b) c.copy-from-slice-in-loop-round.ensures.after
     ∙ c.spread.ensures b
     ∙ ap (λ s. takens s b || leads le c.args.bar (takens c.loop-round.marked) arcs b) c.copy-from-slice.ensures.after
-    ∙ round_more le arcs c.args.bar c.args.from c.loop-round.-round (takens c.loop-round.marked) c.loop-round.invariant b)
+    ∙ round_more le arcs c.args.bar c.args.from c.loop-round._round (takens c.loop-round.marked) c.loop-round.invariant b)
 
 pub spread-requires : goal.spread-requires
 spread-requires g c = each_map _ _ (standing c.args.lines.now) (λ e h. omega (arith, pick_within c.args.n c.args.way e h, c.copy-from-slice.ensures.len, c.loop-round.auto.spreading)) c.requires.lines
@@ -28,7 +28,7 @@ pub returns-then-is-same : goal.returns-then-is-same
 returns-then-is-same g c =
     let le = g.G.Grade.le in
     let arcs = faced c.args.way (standing c.args.lines.now) in
-    let k = c.loop-round.-round in
+    let k = c.loop-round._round in
     let more : (b : ℕ) → marks le arcs c.args.bar c.args.from (suc k) b ≡ marks le arcs c.args.bar c.args.from k b = λ b.
     sym (round_more le arcs c.args.bar c.args.from k (takens c.loop-round.marked) c.loop-round.invariant b)
     ∙ sym (ap (λ s. takens s b || leads le c.args.bar (takens c.loop-round.marked) arcs b) c.copy-from-slice.ensures.after)
@@ -40,5 +40,5 @@ returns-then-is-same g c =
 
 pub returns : goal.returns
 returns g c =
-    let all : c.loop-round.-round ≡ c.args.n = omega arith in
+    let all : c.loop-round._round ≡ c.args.n = omega arith in
     rw all at c.loop-round.invariant

@@ -40,6 +40,6 @@ pub returns-in-WrongScriptLine : goal.returns-in-WrongScriptLine
 returns-in-WrongScriptLine c =
     IfOk-weaker c.placed.result _ _ (λ s e. e ∙ bad-line c.args.refusal c.in-WrongScriptLine.place c.number-number.result c.in-WrongScriptLine.is c.number-number.ensures) c.placed.ensures
 
-pub returns-in-default : goal.returns-in-default
-returns-in-default c =
-    IfOk-weaker c.numbered.result _ _ (λ s e. e ∙ other c.args.refusal c.number-number.result c.in-default.not-WrongScriptLine c.number-number.ensures) c.numbered.ensures
+pub returns-in_default : goal.returns-in_default
+returns-in_default c =
+    IfOk-weaker c.numbered.result _ _ (λ s e. e ∙ other c.args.refusal c.number-number.result c.in_default.not-WrongScriptLine c.number-number.ensures) c.numbered.ensures

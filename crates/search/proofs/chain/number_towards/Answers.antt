@@ -13,29 +13,29 @@ loop-step-init g c =
 pub loop-step-preserved : goal.loop-step-preserved
 loop-step-preserved g c =
     let lines = c.args.lines.now in
-    let k : ℕ = length lines - (c.loop-step.-step + 1) in
-    let more : length lines - c.loop-step.-step ≡ suc k = omega arith in
+    let k : ℕ = length lines - (c.loop-step._step + 1) in
+    let more : length lines - c.loop-step._step ≡ suc k = omega arith in
     let line = c.in-Some.line in
     sym (number_on c.args.far (arc c.loop-step.slot line) (chain lines k line.next) (ne_eqb _ _ c.if-far-line.false))
     ∙ (rw (more, chain_more lines k c.loop-step.slot (Some line) c.in-Some.ensures) at c.loop-step.invariant)
 
 pub returns : goal.returns
 returns g c =
-    let done : length c.args.lines.now - c.loop-step.-step ≡ 0 = omega arith in
+    let done : length c.args.lines.now - c.loop-step._step ≡ 0 = omega arith in
     rw done at c.loop-step.invariant
 
-pub returns-in-default : goal.returns-in-default
-returns-in-default g c =
+pub returns-in_default : goal.returns-in_default
+returns-in_default g c =
     let lines = c.args.lines.now in
-    let k : ℕ = length lines - (c.loop-step.-step + 1) in
-    let more : length lines - c.loop-step.-step ≡ suc k = omega arith in
-    rw (more, chain_more lines k c.loop-step.slot None c.in-default.ensures) at c.loop-step.invariant
+    let k : ℕ = length lines - (c.loop-step._step + 1) in
+    let more : length lines - c.loop-step._step ≡ suc k = omega arith in
+    rw (more, chain_more lines k c.loop-step.slot None c.in_default.ensures) at c.loop-step.invariant
 
 pub returns-then-far-line : goal.returns-then-far-line
 returns-then-far-line g c =
     let lines = c.args.lines.now in
-    let k : ℕ = length lines - (c.loop-step.-step + 1) in
-    let more : length lines - c.loop-step.-step ≡ suc k = omega arith in
+    let k : ℕ = length lines - (c.loop-step._step + 1) in
+    let more : length lines - c.loop-step._step ≡ suc k = omega arith in
     let line = c.in-Some.line in
     sym (number_here c.args.far (arc c.loop-step.slot line) (chain lines k line.next) (eq-eqb _ _ c.if-far-line.true))
     ∙ (rw (more, chain_more lines k c.loop-step.slot (Some line) c.in-Some.ensures) at c.loop-step.invariant)

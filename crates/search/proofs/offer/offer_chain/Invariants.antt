@@ -10,5 +10,5 @@ use Rattle.search.proofs.offer.offer_chain.Given as goal
 -- what is left of the chain makes of the marks now what the whole chain makes of the marks before
 abbrev pub invariant-loop-step : goal.invariant-loop-step
 invariant-loop-step g l =
-    (offered_all (label_le g.G.Grade.le) (narrow g.G.Grade.le) l.from l.held.label (without (chain l.lines (length l.lines - l.-step) l.slot) l.skip) (marks (label_of l.lines) l.labels l.ways) ≡ offered_all (label_le g.G.Grade.le) (narrow g.G.Grade.le) l.from l.held.label (without (chain l.lines (length l.lines) l.first) l.skip) (marks (label_of l.lines) l.initial.labels l.initial.ways))
-    × Each (λ e. e.far < length l.initial.labels) (chain l.lines (length l.lines - l.-step) l.slot)
+    (offered_all (label_le g.G.Grade.le) (narrow g.G.Grade.le) l.from l.held.label (without (chain l.lines (length l.lines - l._step) l.slot) l.skip) (marks (label_of l.lines) l.labels l.ways) ≡ offered_all (label_le g.G.Grade.le) (narrow g.G.Grade.le) l.from l.held.label (without (chain l.lines (length l.lines) l.first) l.skip) (marks (label_of l.lines) l.initial.labels l.initial.ways))
+    × Each (λ e. e.far < length l.initial.labels) (chain l.lines (length l.lines - l._step) l.slot)

@@ -10,6 +10,6 @@ returns g c = λ x top.
     let labels = c.begin.new.labels in
     let ways = c.begin.new.ways in
     let taken = c.begin.new.taken in
-    c.run-turns.ensures
+    c.run_turns.ensures
     ∙ ap (search_from g.N.Net.le (g.N.Net.rule net) c.args.n c.args.end c.args.n)
     (begun read c.requires.none c.args.top x top c.args.start labels ways taken c.begin.ensures.labels c.begin.ensures.ways c.begin.ensures.taken)

@@ -17,40 +17,40 @@ loop-turn-preserved g c =
     let rule = g.N.Net.rule c.args.net.now in
     let ways = c.loop-turn.ways in
     let s = state_of read c.loop-turn.labels ways c.loop-turn.taken in
-    let k : ℕ = c.args.n - (c.loop-turn.-turn + 1) in
-    let more : c.args.n - c.loop-turn.-turn ≡ suc k = omega arith in
+    let k : ℕ = c.args.n - (c.loop-turn._turn + 1) in
+    let more : c.args.n - c.loop-turn._turn ≡ suc k = omega arith in
     ap (search_from le rule c.args.n c.args.end k) c.take_bridge.ensures
-    ∙ sym (turn_on le rule c.args.n c.args.end s k c.in-Some.choice (c.in-Some.ensures.picks ways) (ne_eqb _ _ c.if-is-end.false))
+    ∙ sym (turn_on le rule c.args.n c.args.end s k c.in-Some.choice (c.in-Some.ensures.picks ways) (ne_eqb _ _ c.if-is_end.false))
     ∙ (rw more at c.loop-turn.invariant)
 
 pub returns : goal.returns
 returns g c =
-    let done : c.args.n - c.loop-turn.-turn ≡ 0 = omega arith in
+    let done : c.args.n - c.loop-turn._turn ≡ 0 = omega arith in
     rw done at c.loop-turn.invariant
 
-pub returns-in-default : goal.returns-in-default
-returns-in-default g c =
+pub returns-in_default : goal.returns-in_default
+returns-in_default g c =
     let le = g.N.Net.le in
     let read = g.N.Net.read c.args.net.now in
     let rule = g.N.Net.rule c.args.net.now in
     let ways = c.loop-turn.ways in
     let s = state_of read c.loop-turn.labels ways c.loop-turn.taken in
-    let k : ℕ = c.args.n - (c.loop-turn.-turn + 1) in
-    let more : c.args.n - c.loop-turn.-turn ≡ suc k = omega arith in
-    sym (turn_none le rule c.args.n c.args.end s k (c.in-default.ensures.picks ways))
+    let k : ℕ = c.args.n - (c.loop-turn._turn + 1) in
+    let more : c.args.n - c.loop-turn._turn ≡ suc k = omega arith in
+    sym (turn_none le rule c.args.n c.args.end s k (c.in_default.ensures.picks ways))
     ∙ (rw more at c.loop-turn.invariant)
 
-pub returns-then-is-end : goal.returns-then-is-end
-returns-then-is-end g c =
+pub returns-then-is_end : goal.returns-then-is_end
+returns-then-is_end g c =
     let le = g.N.Net.le in
     let read = g.N.Net.read c.args.net.now in
     let rule = g.N.Net.rule c.args.net.now in
     let ways = c.loop-turn.ways in
     let taken = c.loop-turn.taken in
     let s = state_of read c.loop-turn.labels ways taken in
-    let k : ℕ = c.args.n - (c.loop-turn.-turn + 1) in
-    let more : c.args.n - c.loop-turn.-turn ≡ suc k = omega arith in
+    let k : ℕ = c.args.n - (c.loop-turn._turn + 1) in
+    let more : c.args.n - c.loop-turn._turn ≡ suc k = omega arith in
     let chosen = c.in-Some.ensures in
-    state_path refl (ap (λ u. takens (set taken u 1)) c.if-is-end.true ∙ taken_set taken c.args.end (omega (arith, chosen.within)))
-    ∙ sym (turn_end le rule c.args.n c.args.end s k c.in-Some.choice (chosen.picks ways) (eq-eqb _ _ c.if-is-end.true))
+    state_path refl (ap (λ u. takens (set taken u 1)) c.if-is_end.true ∙ taken_set taken c.args.end (omega (arith, chosen.within)))
+    ∙ sym (turn_end le rule c.args.n c.args.end s k c.in-Some.choice (chosen.picks ways) (eq-eqb _ _ c.if-is_end.true))
     ∙ (rw more at c.loop-turn.invariant)

@@ -22,9 +22,9 @@ loop-at-preserved g c =
     let up : p + 1 ≡ at = omega arith in
     let next : suc p ≡ at = omega arith in (
       omega arith,
-      omega (arith, c.type-inv.ways v),
+      omega (arith, c.type_inv.ways v),
       ap (back read labels ways p a (get_or ways v 0)) (drop-set spare p v lt ∙ ap (λ j. v ∷ drop j spare) up)
-          ∙ sym (back_more read labels ways a v (drop at spare) p c.in-Some.-label (ne_eqb _ _ c.if-bridge-start.false) c.in-Some.ensures)
+          ∙ sym (back_more read labels ways a v (drop at spare) p c.in-Some._label (ne_eqb _ _ c.if-bridge-start.false) c.in-Some.ensures)
           ∙ ap (λ k. back read labels ways k a v (drop at spare)) next
           ∙ c.loop-at.invariant.2,
     )
@@ -42,6 +42,6 @@ pub returns-then-place-labels : goal.returns-then-place-labels
 returns-then-place-labels g c =
     record { place = omega arith; row = sym (back_absent (g.N.Net.read c.args.net.now) c.args.labels.now c.args.ways.now c.args.start c.loop-at.bridge (drop c.loop-at.at c.loop-at.spare) c.loop-at.at (sym (ap (g.N.Net.read c.args.net.now) (get_or_past c.args.labels.now c.loop-at.bridge 0 c.if-place-labels.true) ∙ c.requires.none))) ∙ c.loop-at.invariant.2 }
 
-pub returns-in-default : goal.returns-in-default
-returns-in-default g c =
-    record { place = omega arith; row = sym (back_absent (g.N.Net.read c.args.net.now) c.args.labels.now c.args.ways.now c.args.start c.loop-at.bridge (drop c.loop-at.at c.loop-at.spare) c.loop-at.at c.in-default.ensures) ∙ c.loop-at.invariant.2 }
+pub returns-in_default : goal.returns-in_default
+returns-in_default g c =
+    record { place = omega arith; row = sym (back_absent (g.N.Net.read c.args.net.now) c.args.labels.now c.args.ways.now c.args.start c.loop-at.bridge (drop c.loop-at.at c.loop-at.spare) c.loop-at.at c.in_default.ensures) ∙ c.loop-at.invariant.2 }

@@ -5,6 +5,6 @@ use Rattle.stored.proofs.StoredSurveyField.ask_listing.Goals as goal
 
 pub returns : goal.returns
 returns c = record {
-  answer = ap (λ m. Listed m) c.chain-length.ensures ∙ sym (listing-told c.args.self.now.bytes.now c.args.bridge c.in-Some.chain c.in-Some.ensures.chain);
+  answer = ap (λ m. Listed m) c.chain_length.ensures ∙ sym (listing-told c.args.self.now.bytes.now c.args.bridge c.in-Some.chain c.in-Some.ensures.chain);
   same = refl;
 }

@@ -11,13 +11,13 @@ use Rattle.search.proofs.Offers.{offered-each}
 use Rattle.search.proofs.Skipping.{fan_without}
 use Rattle.search.proofs.tables.TablesNet.offer_from.Goals as goal
 
-pub offer-chain-requires : goal.offer-chain-requires
-offer-chain-requires g c =
+pub offer_chain-requires : goal.offer_chain-requires
+offer_chain-requires g c =
     let t = c.args.self.now in
     let fan = c.requires.sound.fans c.args.bridge c.requires.bridge.0 c.requires.bridge.1 in
     record {
       held = c.requires.label;
-      within = subst (λ (m : ℕ). Each (λ e. e.far < m) (chain t.lines.now (length t.lines.now) c.head-of-head.result)) (sym c.requires.labels) (rw c.head-of-head.ensures fan.within);
+      within = subst (λ (m : ℕ). Each (λ e. e.far < m) (chain t.lines.now (length t.lines.now) c.head_of-head.result)) (sym c.requires.labels) (rw c.head_of-head.ensures fan.within);
       alike = c.requires.ways ∙ sym c.requires.labels;
     }
 
@@ -29,6 +29,6 @@ returns g c =
     let before = marks (label_of lines) c.args.labels.now c.args.ways.now in
     let u = c.args.bridge in
     let fan = chain_of t.n t.first.now lines u in
-    c.offer-chain.ensures
-    ∙ ap (λ h. offered_all (label_le le) (narrow le) u c.args.label (without (chain lines (length lines) h) t.skip) before) c.head-of-head.ensures
+    c.offer_chain.ensures
+    ∙ ap (λ h. offered_all (label_le le) (narrow le) u c.args.label (without (chain lines (length lines) h) t.skip) before) c.head_of-head.ensures
     ∙ fun_ext (λ v. offered-each (label_le le) (narrow le) u c.args.label (without fan t.skip) before (fan_without (t.n + 1) fan t.skip (c.requires.sound.fans u c.requires.bridge.0 c.requires.bridge.1)).apart v)

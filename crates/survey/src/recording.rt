@@ -22,9 +22,9 @@ fn lay_list<F: Field>(
     field: &mut F,
     near: u16,
 )
-    requires { ReadyList (memory head.old first.old lines.old) near (entries (tells field.old near)) }
-    ensures laid { memory head.new first.new lines.new ≡ lay_all (memory head.old first.old lines.old) (lines_from near (entries (tells field.old near))) }
-    ensures same { tells field.new ≡ tells field.old }
+    requires { ReadyList (memory head.old first.old lines.old) near (entries (F.tells field.old near)) }
+    ensures laid { memory head.new first.new lines.new ≡ lay_all (memory head.old first.old lines.old) (lines_from near (entries (F.tells field.old near))) }
+    ensures same { F.tells field.new ≡ F.tells field.old }
 {
     let Listing::Listed(length) = field.ask_listing(near) else {
         return;
@@ -52,9 +52,9 @@ fn lay_lists<F: Field>(
     count: u16,
 )
     requires count { count ≤ length order.now }
-    requires ready { ReadyLists (tells field.old) (memory head.old first.old lines.old) (take count order.now) }
-    ensures laid { memory head.new first.new lines.new ≡ lay_all (memory head.old first.old lines.old) (recorded (tells field.old) (take count order.now)) }
-    ensures same { tells field.new ≡ tells field.old }
+    requires ready { ReadyLists (F.tells field.old) (memory head.old first.old lines.old) (take count order.now) }
+    ensures laid { memory head.new first.new lines.new ≡ lay_all (memory head.old first.old lines.old) (recorded (F.tells field.old) (take count order.now)) }
+    ensures same { F.tells field.new ≡ F.tells field.old }
 {
     for passed in 0..count as usize {
         lay_list(head, first, lines, field, order[passed]);
@@ -75,8 +75,8 @@ fn walk_and_record<F: Field>(
     requires book { lawful (memory head.old first.old lines.old) ≡ true }
     requires start { (1 ≤ start) × (start ≤ head.old.bridges) }
     requires work { (head.old.bridges ≤ length order.old) × (head.old.bridges ≤ length marks.old) × (head.old.bridges ≤ length stamps.old) }
-    ensures survey { (told (λ count. count) result, memory head.new first.new lines.new) ≡ recorded_over (tells field.old) (memory head.old first.old lines.old) (walked (tells field.old) head.old.bridges head.old.slots start) }
-    ensures same { tells field.new ≡ tells field.old }
+    ensures survey { (told (λ count. count) result, memory head.new first.new lines.new) ≡ recorded_over (F.tells field.old) (memory head.old first.old lines.old) (walked (F.tells field.old) head.old.bridges head.old.slots start) }
+    ensures same { F.tells field.new ≡ F.tells field.old }
 {
     let bridges = head.bridges;
     let tally = walk(field, bridges, head.slots, start, order, marks, stamps)?;
@@ -97,10 +97,10 @@ pub fn survey<F: Field>(
     field: &mut F,
     start: u16,
 ) -> Result<u16, Refusal>
-    ensures survey { (told (λ count. count) result, memory head.new first.new lines.new) ≡ surveying (tells field.old) (memory head.old first.old lines.old) (length work.old) start }
-    ensures reachable { 1 ≤ start → start ≤ head.old.bridges → WalksAll (tells field.old) head.old.bridges head.old.slots start }
-    ensures refusals { 1 ≤ start → start ≤ head.old.bridges → StopsRight (tells field.old) head.old.bridges head.old.slots start }
-    ensures same { tells field.new ≡ tells field.old }
+    ensures survey { (told (λ count. count) result, memory head.new first.new lines.new) ≡ surveying (F.tells field.old) (memory head.old first.old lines.old) (length work.old) start }
+    ensures reachable { 1 ≤ start → start ≤ head.old.bridges → WalksAll (F.tells field.old) head.old.bridges head.old.slots start }
+    ensures refusals { 1 ≤ start → start ≤ head.old.bridges → StopsRight (F.tells field.old) head.old.bridges head.old.slots start }
+    ensures same { F.tells field.new ≡ F.tells field.old }
 {
     admit_book(head, first, lines, work)?;
     let bridges = head.bridges;

@@ -55,13 +55,13 @@ fn read_list<F: Field>(
     marks: &mut [u16],
     stamps: &mut [u16],
 ) -> Result<Tally, Refusal>
-    requires lists { listing (tells field.old near) ≡ Listing.Listed length }
+    requires lists { listing (F.tells field.old near) ≡ Listing.Listed length }
     requires memory { FoundIn n order.old marks.old tally.found }
     requires unstamped { Unstamped n turn stamps.old }
     requires counted { tally.lines ≤ limit }
-    ensures read { told (stands_for order.new) result ≡ read_bridge n limit near (stands_for order.old tally) (tells field.old near) }
+    ensures read { told (stands_for order.new) result ≡ read_bridge n limit near (stands_for order.old tally) (F.tells field.old near) }
     ensures memory { IfOk result (λ t. FoundIn n order.new marks.new t.found × Unstamped n (turn + 1) stamps.new × (t.lines ≤ limit)) }
-    ensures same { tells field.new ≡ tells field.old }
+    ensures same { F.tells field.new ≡ F.tells field.old }
 {
     let mut now_told = tally;
     for passed in 0..length {
@@ -106,9 +106,9 @@ fn take_bridge<F: Field>(
     requires memory { FoundIn n order.old marks.old tally.found }
     requires unstamped { Unstamped n turn stamps.old }
     requires counted { tally.lines ≤ limit }
-    ensures read { told (stands_for order.new) result ≡ read_bridge n limit near (stands_for order.old tally) (tells field.old near) }
+    ensures read { told (stands_for order.new) result ≡ read_bridge n limit near (stands_for order.old tally) (F.tells field.old near) }
     ensures memory { IfOk result (λ t. FoundIn n order.new marks.new t.found × Unstamped n (turn + 1) stamps.new × (t.lines ≤ limit)) }
-    ensures same { tells field.new ≡ tells field.old }
+    ensures same { F.tells field.new ≡ F.tells field.old }
 {
     match field.ask_listing(near) {
         Listing::Silent(cause) => Err(Refusal::SilentBridge {
@@ -153,10 +153,10 @@ pub fn walk<F: Field>(
 ) -> Result<Tally, Refusal>
     requires start { (1 ≤ start) × (start ≤ n) }
     requires memory { (n ≤ length order.old) × (n ≤ length marks.old) × (n ≤ length stamps.old) }
-    ensures walked { told (stands_for order.new) result ≡ walked (tells field.old) n limit start }
+    ensures walked { told (stands_for order.new) result ≡ walked (F.tells field.old) n limit start }
     ensures within { IfOk result (λ t. t.found ≤ n) }
-    ensures complete { WalksAll (tells field.old) n limit start }
-    ensures same { tells field.new ≡ tells field.old }
+    ensures complete { WalksAll (F.tells field.old) n limit start }
+    ensures same { F.tells field.new ≡ F.tells field.old }
 {
     clear(n, marks);
     clear(n, stamps);

@@ -23,6 +23,6 @@ returns-in-Some g c = λ arcs holds proper.
     let t = c.args.tables.now in
     let le = g.G.Grade.le in
     let ends : Pair t.n c.args.from c.args.to = record { near_from = c.requires.from.0; near_to = c.requires.from.1; far_from = c.requires.to.0; far_to = c.requires.to.1; differ = c.if-from-to.false } in
-    ap (λ r. not r) c.at-most.ensures
+    ap (λ r. not r) c.at_most.ensures
     ∙ ap (λ h. exceeds le h c.args.bar) (c.in-Some.ensures arcs holds proper.apart)
     ∙ reaches-best le t.n (without arcs t.skip) (lines_without t.n arcs t.skip proper) c.args.bar g.met.G.Grade.ranked c.args.from c.args.to ends

@@ -5,8 +5,8 @@ use Rattle.margins.proofs.margin.margin_or.Goals as goal
 pub returns-then-line-eq0 : goal.returns-then-line-eq0
 returns-then-line-eq0 g c = sym (cond-true _ _ _ (eq-eqb _ 0 c.if-line-eq0.true))
 
-pub margin-of-requires : goal.margin-of-requires
-margin-of-requires g c = record { sound = c.requires.sound; reached = c.requires.reached; reaching = c.requires.reaching; line = c.requires.line (ne_eqb _ 0 c.if-line-eq0.false); work = c.requires.work }
+pub margin_of-requires : goal.margin_of-requires
+margin_of-requires g c = record { sound = c.requires.sound; reached = c.requires.reached; reaching = c.requires.reaching; line = c.requires.line (ne_eqb _ 0 c.if-line-eq0.false); work = c.requires.work }
 
 pub returns : goal.returns
-returns g c = c.margin-of.ensures ∙ sym (cond-false _ _ _ (ne_eqb _ 0 c.if-line-eq0.false))
+returns g c = c.margin_of.ensures ∙ sym (cond-false _ _ _ (ne_eqb _ 0 c.if-line-eq0.false))

@@ -20,16 +20,16 @@ loop-place-preserved g c =
     let within : i < length out = omega (arith, c.loop-place.auto.out, c.requires.out, c.loop-place-test.true) in
     let inv = rw (drop_here lines i l c.in-Some.ensures) at c.loop-place.invariant in
     let next : i + 1 ≡ suc i = omega arith in
-    let told = c.margin-or-own.ensures ∙ ap (λ (k : ℕ). record_of of k l c.margin-at-old.result) next in
+    let told = c.margin_or-own.ensures ∙ ap (λ (k : ℕ). record_of of k l c.margin_at-old.result) next in
     rw add-one (
-      ap (λ xs. take (suc i) xs ++ margins_in of (suc (suc i)) (drop (suc i) lines) (drop (suc i) xs)) c.put-margin.ensures
-          ∙ margins-more of i l (drop (suc i) lines) out c.margin-or-own.result c.margin-at-old.result within c.margin-at-old.ensures told
+      ap (λ xs. take (suc i) xs ++ margins_in of (suc (suc i)) (drop (suc i) lines) (drop (suc i) xs)) c.put_margin.ensures
+          ∙ margins-more of i l (drop (suc i) lines) out c.margin_or-own.result c.margin_at-old.result within c.margin_at-old.ensures told
           ∙ inv.0,
       each-rest _ (suc i) l (drop (suc i) lines) inv.1,
     )
 
-pub margin-or-own-requires : goal.margin-or-own-requires
-margin-or-own-requires g c =
+pub margin_or-own-requires : goal.margin_or-own-requires
+margin_or-own-requires g c =
     let lines = c.args.asked.now.lines.now in
     let i = c.loop-place.place in
     let l = c.in-Some.line in
@@ -42,9 +42,9 @@ margin-or-own-requires g c =
       work = omega (arith, c.requires.work, c.loop-place.auto.work);
     }
 
-pub returns-in-default : goal.returns-in-default
-returns-in-default g c =
-    margins_done (margin_told g.G.Grade.le c.args.asked.now) c.loop-place.place (suc c.loop-place.place) (drop c.loop-place.place c.args.asked.now.lines.now) c.loop-place.out (drop_past c.args.asked.now.lines.now c.loop-place.place c.in-default.ensures)
+pub returns-in_default : goal.returns-in_default
+returns-in_default g c =
+    margins_done (margin_told g.G.Grade.le c.args.asked.now) c.loop-place.place (suc c.loop-place.place) (drop c.loop-place.place c.args.asked.now.lines.now) c.loop-place.out (drop_past c.args.asked.now.lines.now c.loop-place.place c.in_default.ensures)
     ∙ c.loop-place.invariant.0
 
 pub returns : goal.returns

@@ -9,7 +9,7 @@ use Rattle.margins.proofs.published.margins.Goals as goal
 pub judge-requires : goal.judge-requires
 judge-requires g c =
     let m = memory c.args.head.now c.args.first.now c.args.lines.now in
-    let passed = book_passed m _ c.in-ok-admit-book.ensures.told in
+    let passed = book_passed m _ c.in_ok-admit_book.ensures.told in
     let law = passed.1 in
     let s = sound m law in
     record {
@@ -17,6 +17,6 @@ judge-requires g c =
       holds = tables_hold m law;
       proper = standing-told m law;
       few = omega (arith, s.long, s.few_slots);
-      work = omega (arith, passed.0, c.admit-book.auto.work);
+      work = omega (arith, passed.0, c.admit_book.auto.work);
       out = omega (arith, s.long);
     }

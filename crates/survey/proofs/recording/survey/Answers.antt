@@ -6,13 +6,13 @@ use Rattle.survey.proofs.Surveys.{not_admitted, outside, goes}
 use Rattle.survey.proofs.Walks.{walks_all, stops-right}
 use Rattle.survey.proofs.recording.survey.Goals as goal
 
-pub returns-in-err-admit-book : goal.returns-in-err-admit-book
-returns-in-err-admit-book g c =
+pub returns-in_err-admit_book : goal.returns-in_err-admit_book
+returns-in_err-admit_book g c =
     let m = memory c.args.head.now c.args.first.now c.args.lines.now in
     let tells = g.F.Field.tells c.args.field.now in
-    let p = err_from_is_err_and c.from-residual.result c.from-residual.ensures.1 in
+    let p = err_from_is_err_and c.from_residual.result c.from_residual.ensures.1 in
     rw (p.1, p.2) (record {
-      survey = not_admitted tells m (length c.args.work.now) c.args.start _ c.in-err-admit-book.ensures.told;
+      survey = not_admitted tells m (length c.args.work.now) c.args.start _ c.in_err-admit_book.ensures.told;
       reachable = walks_all tells m.head.bridges m.head.slots c.args.start;
       refusals = stops-right tells m.head.bridges m.head.slots c.args.start;
       same = refl;
@@ -23,7 +23,7 @@ returns-then-start-lt1 g c =
     let m = memory c.args.head.now c.args.first.now c.args.lines.now in
     let tells = g.F.Field.tells c.args.field.now in
     record {
-      survey = outside tells m (length c.args.work.now) c.args.start c.in-ok-admit-book.ensures.told c.then-start-lt1.either;
+      survey = outside tells m (length c.args.work.now) c.args.start c.in_ok-admit_book.ensures.told c.then-start-lt1.either;
       reachable = walks_all tells m.head.bridges m.head.slots c.args.start;
       refusals = stops-right tells m.head.bridges m.head.slots c.args.start;
       same = refl;
@@ -34,15 +34,15 @@ returns g c =
     let m = memory c.args.head.now c.args.first.now c.args.lines.now in
     let tells = g.F.Field.tells c.args.field.now in
     record {
-      survey = c.walk-and-record.ensures.survey ∙ goes tells m (length c.args.work.now) c.args.start c.in-ok-admit-book.ensures.told c.if-start-lt1.false c.if-start-bridges.false;
+      survey = c.walk_and_record.ensures.survey ∙ goes tells m (length c.args.work.now) c.args.start c.in_ok-admit_book.ensures.told c.if-start-lt1.false c.if-start-bridges.false;
       reachable = walks_all tells m.head.bridges m.head.slots c.args.start;
       refusals = stops-right tells m.head.bridges m.head.slots c.args.start;
-      same = c.walk-and-record.ensures.same;
+      same = c.walk_and_record.ensures.same;
     }
 
-pub walk-and-record-requires : goal.walk-and-record-requires
-walk-and-record-requires g c =
+pub walk_and_record-requires : goal.walk_and_record-requires
+walk_and_record-requires g c =
     let m = memory c.args.head.now c.args.first.now c.args.lines.now in
-    let passed = book_passed m (length c.args.work.now) c.in-ok-admit-book.ensures.told in
+    let passed = book_passed m (length c.args.work.now) c.in_ok-admit_book.ensures.told in
     let long : 8 * m.head.bridges + m.head.slots ≤ length c.args.work.now = passed.0 in
     record { book = passed.1; start = (c.if-start-lt1.false, c.if-start-bridges.false); work = (omega arith, omega arith, omega arith) }

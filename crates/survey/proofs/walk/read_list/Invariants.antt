@@ -9,8 +9,8 @@ abbrev pub invariant-loop-passed : goal.invariant-loop-passed
 invariant-loop-passed g l =
     let es = entries (g.F.Field.tells l.initial.field l.near) in
     (g.F.Field.tells l.field ≡ g.F.Field.tells l.initial.field)
-    × (l.now-told.lines ≤ l.limit)
-    × FoundIn l.n l.order l.marks l.now-told.found
+    × (l.now_told.lines ≤ l.limit)
+    × FoundIn l.n l.order l.marks l.now_told.found
     × ((before : List ℕ)
     × Stamped l.n l.turn l.stamps before
-    × (read_list l.n l.limit l.near (l.passed + 1) before (stands_for l.order l.now-told) (drop l.passed es) ≡ read_list l.n l.limit l.near 1 [] (stands_for l.initial.order l.initial.now-told) es))
+    × (read_list l.n l.limit l.near (l.passed + 1) before (stands_for l.order l.now_told) (drop l.passed es) ≡ read_list l.n l.limit l.near 1 [] (stands_for l.initial.order l.initial.now_told) es))

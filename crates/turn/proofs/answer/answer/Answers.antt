@@ -28,15 +28,15 @@ width-taken : (t : Bool) (x : Held (Label ℕ)) (w : ℕ) → Some w ≡ width_i
 width-taken true x w e = refl
 width-taken false x w e = absurd (let z : ◌≡◌ {A = ℕ} 0 1 = cc in omega arith)
 
-pub write-bridges-stops-requires : goal.write-bridges-stops-requires
-write-bridges-stops-requires c =
+pub write_bridges-stops-requires : goal.write_bridges-stops-requires
+write_bridges-stops-requires c =
     let net = c.args.net.now in
     let read = pair_label_of net.lines.now net.partners.now in
     let labels : List ℕ = c.args.labels.now in
     let taken : List ℕ = c.args.taken.now in
     let z : ℕ = c.args.end in
-    let way = row_is read labels c.args.ways.now taken c.way-back-at.new.spare net.n (length c.args.spare.now) c.args.start z c.way-back-at.result c.requires.spare c.way-back-at.ensures.row in
-    let told : Some c.in-Some.width ≡ width_in (takens taken z) (read (get_or labels z 0)) = c.in-Some.ensures ∙ ap (width_in (takens taken z)) c.label-of-label.ensures in
+    let way = row_is read labels c.args.ways.now taken c.way_back-at.new.spare net.n (length c.args.spare.now) c.args.start z c.way_back-at.result c.requires.spare c.way_back-at.ensures.row in
+    let told : Some c.in-Some.width ≡ width_in (takens taken z) (read (get_or labels z 0)) = c.in-Some.ensures ∙ ap (width_in (takens taken z)) c.label_of-label.ensures in
     let short = c.requires.short (width-taken (takens taken z) (read (get_or labels z 0)) c.in-Some.width told) in
     omega (arith, ap length way, short)
 
@@ -55,17 +55,17 @@ returns c =
     let look = table_line n c.args.first.now lines in
     let old : List ℕ = c.args.bridges.now in
     let old' : List ℕ = c.args.turned.now in
-    let spare : List ℕ = c.way-back-at.new.spare in
-    let at : ℕ = c.way-back-at.result in
+    let spare : List ℕ = c.way_back-at.new.spare in
+    let at : ℕ = c.way_back-at.result in
     let row : List ℕ = take (length spare - at) (drop at spare) in
     let route : List ℕ = way_in n (state_of read labels ways taken) a z [] in
-    let way : row ≡ route = row_is read labels ways taken spare n (length c.args.spare.now) a z at c.requires.spare c.way-back-at.ensures.row in
+    let way : row ≡ route = row_is read labels ways taken spare n (length c.args.spare.now) a z at c.requires.spare c.way_back-at.ensures.row in
     let one_more : length row + 1 ≡ length (a ∷ row) = omega arith in
-    let told : Some w ≡ width_in (takens taken z) (read (get_or labels z 0)) = c.in-Some.ensures ∙ ap (width_in (takens taken z)) c.label-of-label.ensures in
-    let stops-is : c.write-bridges-stops.result ≡ length (a ∷ route) = c.write-bridges-stops.ensures.count ∙ one_more ∙ ap (λ (r : List ℕ). length (a ∷ r)) way in
-    let count-is : c.write-turned-count.result ≡ length (named_by lines look w a route) = c.write-turned-count.ensures.count ∙ ap (λ (r : List ℕ). length (named_by lines look w a r)) way in
+    let told : Some w ≡ width_in (takens taken z) (read (get_or labels z 0)) = c.in-Some.ensures ∙ ap (width_in (takens taken z)) c.label_of-label.ensures in
+    let stops-is : c.write_bridges-stops.result ≡ length (a ∷ route) = c.write_bridges-stops.ensures.count ∙ one_more ∙ ap (λ (r : List ℕ). length (a ∷ r)) way in
+    let count-is : c.write_turned-count.result ≡ length (named_by lines look w a route) = c.write_turned-count.ensures.count ∙ ap (λ (r : List ℕ). length (named_by lines look w a r)) way in
     outcome_path
-    (ap (λ (k : ℕ). answers (w, k, c.write-turned-count.result)) stops-is ∙ ap (λ (k : ℕ). answers (w, length (a ∷ route), k)) count-is)
-    (c.write-bridges-stops.ensures.after ∙ ap (λ (k : ℕ). (a ∷ row) ++ drop k old) one_more ∙ ap (λ (r : List ℕ). written (a ∷ r) old) way)
-    (c.write-turned-count.ensures.after ∙ ap (λ (r : List ℕ). written (named_by lines look w a r) old') way)
+    (ap (λ (k : ℕ). answers (w, k, c.write_turned-count.result)) stops-is ∙ ap (λ (k : ℕ). answers (w, length (a ∷ route), k)) count-is)
+    (c.write_bridges-stops.ensures.after ∙ ap (λ (k : ℕ). (a ∷ row) ++ drop k old) one_more ∙ ap (λ (r : List ℕ). written (a ∷ r) old) way)
+    (c.write_turned-count.ensures.after ∙ ap (λ (r : List ℕ). written (named_by lines look w a r) old') way)
     ∙ ap (λ o. shown (turn_of lines look a route o) old old') (width_is read labels ways taken z (Some w) told)

@@ -12,7 +12,7 @@ answer-requires c =
     let first : List ℕ = c.args.first.now in
     let lines = c.args.lines.now in
     let partners : List ℕ = c.args.partners.now in
-    let is = c.run-search.ensures Unlimited (sym (pair_past lines partners 65535 (λ e. omega arith) (omega (arith, c.requires.paired.few)))) in
+    let is = c.run_search.ensures Unlimited (sym (pair_past lines partners 65535 (λ e. omega arith) (omega (arith, c.requires.paired.few)))) in
     record {
       table = c.requires.table;
       labels = omega (arith, c.requires.labels);
@@ -33,7 +33,7 @@ returns c =
     let partners : List ℕ = c.args.partners.now in
     let a : ℕ = c.args.start in
     let z : ℕ = c.args.end in
-    let is = c.run-search.ensures Unlimited (sym (pair_past lines partners 65535 (λ e. omega arith) (omega (arith, c.requires.paired.few)))) in
+    let is = c.run_search.ensures Unlimited (sym (pair_past lines partners 65535 (λ e. omega arith) (omega (arith, c.requires.paired.few)))) in
     c.answer.ensures
     ∙ ap (λ s. shown (turn_by lines (table_line n first lines) n a z s) c.args.bridges.now c.args.turned.now) is
     ∙ turned-table n first lines c.requires.paired.standing c.requires.holds a z c.requires.ends c.args.bridges.now c.args.turned.now

@@ -8,10 +8,10 @@ use Rattle.search.proofs.Holdings.{tables_hold}
 use Rattle.turn.proofs.Turnings.{turning_on}
 use Rattle.turn.proofs.answer.turn.Goals as goal
 
-pub turn-lines-requires : goal.turn-lines-requires
-turn-lines-requires c =
+pub turn_lines-requires : goal.turn_lines-requires
+turn_lines-requires c =
     let m = memory c.args.head.now c.args.first.now c.args.lines.now in
-    let a = admitted m (length c.args.work.now) c.args.start c.args.end c.in-ok-admit.ensures.told in
+    let a = admitted m (length c.args.work.now) c.args.start c.args.end c.in_ok-admit.ensures.told in
     let s = sound m a.book in
     record {
       table = s.room;
@@ -29,4 +29,4 @@ returns c =
     let m = memory c.args.head.now c.args.first.now c.args.lines.now in
     let wide : c.args.head.now.bridges ≤ length c.args.bridges.now = search rules in
     let long : c.args.head.now.bridges ≤ length c.args.turned.now = search rules in
-    c.turn-lines.ensures ∙ sym (turning_on slots_of m (length c.args.work.now) c.args.start c.args.end c.args.bridges.now c.args.turned.now wide long c.in-ok-admit.ensures.told)
+    c.turn_lines.ensures ∙ sym (turning_on slots_of m (length c.args.work.now) c.args.start c.args.end c.args.bridges.now c.args.turned.now wide long c.in_ok-admit.ensures.told)

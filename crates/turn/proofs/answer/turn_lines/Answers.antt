@@ -12,7 +12,7 @@ plan-requires c =
       paired = record {
         few = c.requires.few;
         standing = c.requires.lines;
-        paired = c.pair-up.ensures ∙ ap (λ (look : Lookup _). map (partner look) lines) (fun_ext (λ u. fun_ext (λ v. c.requires.holds u v)));
+        paired = c.pair_up.ensures ∙ ap (λ (look : Lookup _). map (partner look) lines) (fun_ext (λ u. fun_ext (λ v. c.requires.holds u v)));
       };
       holds = c.requires.holds;
       ends = c.requires.ends;

@@ -7,8 +7,8 @@ use Rattle.turn.specs.Doubling.{Row, pair_slots, pair_label_of, other_end, cross
 use Rattle.turn.proofs.Crossing.{offered-append}
 use Rattle.turn.proofs.doubled.offer_all.Goals as goal
 
-pub offer-across-requires : goal.offer-across-requires
-offer-across-requires c =
+pub offer_across-requires : goal.offer_across-requires
+offer_across-requires c =
     let lines = c.args.net.now.lines.now in
     let k = c.loop-at.at in
     let here : k < length lines = omega arith in
@@ -32,7 +32,7 @@ loop-at-preserved c =
     let d : Row = record { near = 0; far = 0; next = 0; grade = record { raw = 0 } } in
     let l : Row = get_or lines k d in
     let here : k < length lines = omega arith in
-    ap (offered_all (label_le leb) (narrow leb) u x (crossings lines partners u (k + 1) (drop (k + 1) lines))) c.offer-across.ensures
+    ap (offered_all (label_le leb) (narrow leb) u x (crossings lines partners u (k + 1) (drop (k + 1) lines))) c.offer_across.ensures
     ∙ sym (offered-append (label_le leb) (narrow leb) u x (crossing u (k + 1) (pair_slots lines partners k l) (other_end l u)) (crossings lines partners u (k + 1) (drop (k + 1) lines)) now-marks)
     ∙ sym (ap (λ (ls : List Row). offered_all (label_le leb) (narrow leb) u x (crossings lines partners u k ls) now-marks) (drop_more lines k d here))
     ∙ c.loop-at.invariant

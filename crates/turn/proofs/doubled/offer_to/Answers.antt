@@ -10,11 +10,11 @@ returns-then-betters c =
     let read = pair_label_of c.args.net.now.lines.now c.args.net.now.partners.now in
     let labels = c.args.labels.now in
     let ways = c.args.ways.now in
-    let offer = c.hand-across-offer.result in
-    let handed = c.hand-across-offer.ensures in
+    let offer = c.hand_across-offer.result in
+    let handed = c.hand_across-offer.ensures in
     offer_lands (label_le leb) read labels ways c.args.from offer.label c.args.to offer.number c.requires.label c.requires.way
     (handed.number read c.requires.held c.requires.slots)
-    (ap (beats (label_le leb) offer.label) (sym c.pair-label-own.ensures) ∙ sym c.if-betters.ensures)
+    (ap (beats (label_le leb) offer.label) (sym c.pair_label-own.ensures) ∙ sym c.if-betters.ensures)
     ∙ ap (λ y. offered_to (label_le leb) c.args.from y c.args.to (marks read labels ways)) handed.label
 
 pub returns-else-betters : goal.returns-else-betters
@@ -22,7 +22,7 @@ returns-else-betters c =
     let read = pair_label_of c.args.net.now.lines.now c.args.net.now.partners.now in
     let labels = c.args.labels.now in
     let ways = c.args.ways.now in
-    let offer = c.hand-across-offer.result in
+    let offer = c.hand_across-offer.result in
     offer_stays (label_le leb) read labels ways c.args.from offer.label c.args.to
-    (ap (beats (label_le leb) offer.label) (sym c.pair-label-own.ensures) ∙ sym c.if-betters.ensures)
-    ∙ ap (λ y. offered_to (label_le leb) c.args.from y c.args.to (marks read labels ways)) c.hand-across-offer.ensures.label
+    (ap (beats (label_le leb) offer.label) (sym c.pair_label-own.ensures) ∙ sym c.if-betters.ensures)
+    ∙ ap (λ y. offered_to (label_le leb) c.args.from y c.args.to (marks read labels ways)) c.hand_across-offer.ensures.label

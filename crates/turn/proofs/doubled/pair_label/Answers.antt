@@ -9,7 +9,7 @@ returns-then-at-lines c =
     let lines = c.args.lines.now in
     let k = c.args.number - 1 in
     let d : Row = record { near = 0; far = 0; next = 0; grade = record { raw = 0 } } in
-    let whole : c.count.result + c.slots-back.result ≡ pair_slots lines c.args.partners.now k (get_or lines k d) = omega (arith, c.count.ensures, c.slots-back.ensures.sum) in
+    let whole : c.count.result + c.slots_back.result ≡ pair_slots lines c.args.partners.now k (get_or lines k d) = omega (arith, c.count.ensures, c.slots_back.ensures.sum) in
     ap (λ (s : ℕ). Some (Limited s)) whole ∙ pair_read lines c.args.partners.now c.args.number d (λ z. omega arith) (omega arith)
 
 pub returns-else-at-lines : goal.returns-else-at-lines

@@ -11,9 +11,9 @@ loop-at-preserved c =
     let f = partner (table_line c.args.n c.args.first.now lines) in
     let here : k < length lines = omega arith in
     let room : k < length c.loop-at.partners = omega (arith, c.requires.room) in
-    take_more_set c.loop-at.partners k c.number-or-zero.result room
-    ∙ ap (λ (xs : List ℕ). xs ++ c.number-or-zero.result ∷ []) c.loop-at.invariant
-    ∙ ap (λ (x : ℕ). map f (take k lines) ++ x ∷ []) c.number-or-zero.ensures
+    take_more_set c.loop-at.partners k c.number_or_zero.result room
+    ∙ ap (λ (xs : List ℕ). xs ++ c.number_or_zero.result ∷ []) c.loop-at.invariant
+    ∙ ap (λ (x : ℕ). map f (take k lines) ++ x ∷ []) c.number_or_zero.ensures
     ∙ sym (map_more f lines k (record { near = 0; far = 0; next = 0; grade = record { raw = 0 } }) here)
 
 pub returns : goal.returns

@@ -21,11 +21,11 @@ loop-bridge-preserved c =
     let ks = named_by lines look w b (drop (i + 1) row) in
     let lt : i < length row = omega arith in
     let within : count < length numbers = omega arith in
-    let count-is : c.put-number-count.result ≡ place_after count o = c.put-number-count.ensures.place ∙ ap (place_after count) c.line-against-number.ensures in
-    let numbers-is : c.put-number-count.new.numbers ≡ placed numbers count o = c.put-number-count.ensures.after ∙ ap (placed numbers count) c.line-against-number.ensures in (
+    let count-is : c.put_number-count.result ≡ place_after count o = c.put_number-count.ensures.place ∙ ap (place_after count) c.line_against-number.ensures in
+    let numbers-is : c.put_number-count.new.numbers ≡ placed numbers count o = c.put_number-count.ensures.after ∙ ap (placed numbers count) c.line_against-number.ensures in (
       omega (arith, count-is, place_after-le o count),
-      ap (λ k. drop k c.put-number-count.new.numbers) count-is ∙ ap (drop (place_after count o)) numbers-is ∙ beyond_stays o count numbers old c.loop-bridge.invariant.1 ∙ sym (ap (λ k. drop k old) count-is),
-      ap (λ k. take k c.put-number-count.new.numbers ++ ks) count-is
+      ap (λ k. drop k c.put_number-count.new.numbers) count-is ∙ ap (drop (place_after count o)) numbers-is ∙ beyond_stays o count numbers old c.loop-bridge.invariant.1 ∙ sym (ap (λ k. drop k old) count-is),
+      ap (λ k. take k c.put_number-count.new.numbers ++ ks) count-is
           ∙ ap (λ l. take (place_after count o) l ++ ks) numbers-is
           ∙ number-written o ks count numbers within
           ∙ ap (λ l. take count numbers ++ named_by lines look w c.loop-bridge.from l) (sym (drop_more row i 0 lt))

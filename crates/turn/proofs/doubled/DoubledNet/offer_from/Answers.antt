@@ -5,8 +5,8 @@ use Rattle.turn.specs.Doubling.{pair_label_of}
 use Rattle.turn.proofs.Crossing.{ends_within, crossed}
 use Rattle.turn.proofs.doubled.DoubledNet.offer_from.Goals as goal
 
-pub offer-all-requires : goal.offer-all-requires
-offer-all-requires c =
+pub offer_all-requires : goal.offer_all-requires
+offer_all-requires c =
     let t = c.args.self.now in
     let sound = c.requires.sound in
     record {
@@ -21,5 +21,5 @@ returns c =
     let t = c.args.self.now in
     let lines = t.lines.now in
     let partners = t.partners.now in
-    c.offer-all.ensures
+    c.offer_all.ensures
     ∙ fun_ext (λ v. crossed t.n lines partners c.requires.sound c.args.bridge c.args.label (marks (pair_label_of lines partners) c.args.labels.now c.args.ways.now) v)

@@ -3,7 +3,7 @@ ghost use Rattle.std.specs.Prelude.{◌≡◌};
 ghost use Rattle.grade.specs.Told.{told};
 ghost use Rattle.answers.specs.Answers.{tables, bridge_of, in_memory, with_slots};
 
-use crate::book::Book;
+use crate::script_book::Book;
 use grade::{Refusal, Slots};
 
 // A bridge's number as the calls take it: one that 16 bits do not hold is out of range either way.

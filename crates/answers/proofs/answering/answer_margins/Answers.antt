@@ -4,8 +4,8 @@ use Rattle.answers.specs.Answers.{tables, bridge_of, blank, in_memory, margined,
 use Rattle.answers.proofs.Routes.{within}
 use Rattle.answers.proofs.answering.answer_margins.Goals as goal
 
-pub slice-bounds-tell-margins-end : goal.slice-bounds-tell-margins-end
-slice-bounds-tell-margins-end c =
+pub slice_bounds-tell_margins-end : goal.slice_bounds-tell_margins-end
+slice_bounds-tell_margins-end c =
     let fits = within (tables c.args.book.now) 192 c.bridge.result c.bridge-2.result blank blank _ c.in-Ok.ensures in
     omega (arith, fits, c.route-found.auto.numbers)
 
@@ -18,7 +18,7 @@ returns-in-Ok c =
     let told = ap (λ r. shown (margins_along in_memory m r)) c.in-Ok.ensures in
     let bridges = ap (λ a. shown (margins_along in_memory m (in_memory.route a c.bridge-2.result m))) c.bridge.ensures ∙ ap (λ z. shown (margins_along in_memory m (in_memory.route (bridge_of c.args.start) z m))) c.bridge-2.ensures in
     let same = ap (λ k. shown (margined (λ j. in_memory.stands j m) (in_memory.margins (take k row) m))) whole ∙ told ∙ bridges in
-    IfOk-weaker c.tell-margins.result _ _ (λ s e. e ∙ same) c.tell-margins.ensures
+    IfOk-weaker c.tell_margins.result _ _ (λ s e. e ∙ same) c.tell_margins.ensures
 
 pub returns-in-Err : goal.returns-in-Err
 returns-in-Err c =

@@ -6,8 +6,8 @@ use Rattle.answers.specs.Answers.{tables, bridge_of, blank, in_memory, routed, s
 use Rattle.answers.proofs.Routes.{within}
 use Rattle.answers.proofs.answering.answer_route.Goals as goal
 
-pub slice-bounds-route-reply-end : goal.slice-bounds-route-reply-end
-slice-bounds-route-reply-end c =
+pub slice_bounds-route_reply-end : goal.slice_bounds-route_reply-end
+slice_bounds-route_reply-end c =
     let fits = within (tables c.args.book.now) 192 c.bridge.result c.bridge-2.result blank blank _ c.in-Ok.ensures in
     omega (arith, fits, c.route-found.auto.numbers)
 

@@ -5,22 +5,22 @@ use Rattle.answers.specs.Answers.{tables, bridge_of, blank, in_memory, turned, s
 use Rattle.answers.proofs.Turns.{within}
 use Rattle.answers.proofs.answering.answer_turn.Goals as goal
 
-pub slice-bounds-turn-reply-end : goal.slice-bounds-turn-reply-end
-slice-bounds-turn-reply-end c =
+pub slice_bounds-turn_reply-end : goal.slice_bounds-turn_reply-end
+slice_bounds-turn_reply-end c =
     let fits = within (tables c.args.book.now) 192 c.bridge.result c.bridge-2.result blank blank _ c.in-Ok.ensures in
-    omega (arith, fits.0, c.turn_told.auto.bridges)
+    omega (arith, fits.0, c.turn-told.auto.bridges)
 
-pub slice-bounds-turn-reply-end-in-Ok : goal.slice-bounds-turn-reply-end-in-Ok
-slice-bounds-turn-reply-end-in-Ok c =
+pub slice_bounds-turn_reply-end-in-Ok : goal.slice_bounds-turn_reply-end-in-Ok
+slice_bounds-turn_reply-end-in-Ok c =
     let fits = within (tables c.args.book.now) 192 c.bridge.result c.bridge-2.result blank blank _ c.in-Ok.ensures in
-    omega (arith, fits.1, c.turn_told.auto.turned)
+    omega (arith, fits.1, c.turn-told.auto.turned)
 
 pub returns-in-Ok : goal.returns-in-Ok
 returns-in-Ok c =
     let m = tables c.args.book.now in
     let t = c.in-Ok.told in
-    let row = c.turn_told.new.bridges in
-    let lines = c.turn_told.new.turned in
+    let row = c.turn-told.new.bridges in
+    let lines = c.turn-told.new.turned in
     let stops : t.bridges - 0 ≡ t.bridges = omega arith in
     let count : t.turned - 0 ≡ t.turned = omega arith in
     let told = ap (λ r. shown (turned r)) c.in-Ok.ensures in

@@ -8,7 +8,7 @@ pub returns-in-Ok : goal.returns-in-Ok
 returns-in-Ok c =
     let m = tables c.args.book.now in
     let told = ap (λ r. shown (margined (λ k. in_memory.stands k m) r)) c.in-Ok.ensures in
-    IfOk-weaker c.margins_reply.result _ _ (λ s e. e ∙ ap margins_reply c.write-rows.ensures ∙ told) c.margins_reply.ensures
+    IfOk-weaker c.margins_reply.result _ _ (λ s e. e ∙ ap margins_reply c.write_rows.ensures ∙ told) c.margins_reply.ensures
 
 pub returns-in-Err : goal.returns-in-Err
 returns-in-Err c =

@@ -6,7 +6,7 @@ use Rattle.book.specs.Opening.{opening}
 use Rattle.plain.specs.Plain.{new_book}
 use Rattle.planner.specs.Promise.{EveryHistory}
 use Rattle.answers.proofs.Scripts.{every_script}
-use Rattle.answers.proofs.book.Book.new.Goals as goal
+use Rattle.answers.proofs.script_book.Book.new.Goals as goal
 
 pub returns : goal.returns
 returns c =

@@ -3,6 +3,7 @@
 //     discover ring K SLOTS START END      a ring of K bridges, every line with SLOTS slots
 //     discover file PATH START END         a stored survey in a file
 //     discover input START END             a stored survey on standard input
+use anyhow::anyhow;
 use discovery::{Detail, Refused, Request, report_ring, report_stored};
 use grade::Slots;
 use std::alloc::Global;
@@ -54,7 +55,7 @@ fn answer(rt: &HostRuntime, words: &[String]) -> anyhow::Result<String> {
             rt.stdin().read_to_end(&mut bytes)?;
             report_stored(heap, &bytes, request(start.as_str(), end.as_str())?)
         }
-        _ => Err(USAGE.into()),
+        _ => Err(anyhow!(USAGE)),
     }
 }
 

@@ -22,11 +22,11 @@ loop-used-preserved c = (
   λ line e.
       let g = c.loop-used.invariant.1 line e in
       let ended = c.in-Some.ensures.lines g.begun g.holds in
-      let more = c.in-ok-put-reply.ensures ended.this ended.shown in
+      let more = c.in_ok-put_reply.ensures ended.this ended.shown in
       going_more g _ (rest c.args.block.now c.loop-used.at) c.in-Some.used _ ended more.0 _ _ _ more.2 more.1 c.clear.ensures,
 )
 
 pub returns : goal.returns
 returns c = λ line e.
     let g = c.loop-used.invariant.1 line e in
-    going_end g _ (rest c.args.block.now c.loop-used.at) _ (c.in-default.ensures.lines g.begun g.holds)
+    going_end g _ (rest c.args.block.now c.loop-used.at) _ (c.in_default.ensures.lines g.begun g.holds)

@@ -14,19 +14,19 @@ one_line : (line : List ℕ) → (length (take 32 line) ≡ 0 → ⊥) → last_
 one_line [] h = absurd (h refl)
 one_line (b ∷ bs) h = refl
 
-pub returns-then-is-unbegun : goal.returns-then-is-unbegun
-returns-then-is-unbegun c = λ line e.
+pub returns-then-is_unbegun : goal.returns-then-is_unbegun
+returns-then-is_unbegun c = λ line e.
     let m = tables c.args.book.now in
-    let none = eqb-true _ 0 (sym c.is-unbegun.ensures ∙ c.if-is-unbegun.true) in
+    let none = eqb-true _ 0 (sym c.is_unbegun.ensures ∙ c.if-is_unbegun.true) in
     let ends = no_line line (ap length (sym e) ∙ none) in
     subst (λ ls. Replied ls m (string_bytes c.new-text.result) m) (sym ends) (subst (λ t. Replied [] m t m) (sym c.new-text.ensures.bytes) (replied_none m))
 
 pub returns : goal.returns
 returns c = λ line e.
     let m = tables c.args.book.now in
-    let some = eqb-false _ 0 (sym c.is-unbegun.ensures ∙ c.if-is-unbegun.false) in
+    let some = eqb-false _ 0 (sym c.is_unbegun.ensures ∙ c.if-is_unbegun.false) in
     let ends = one_line line (λ z. some (ap length e ∙ z)) in
-    let more = c.in-ok-put-reply.ensures line e in
-    let text : string_bytes c.put-reply.new.text ≡ more.0 = more.1 ∙ ap (λ l. l ++ more.0) c.new-text.ensures.bytes in
-    subst (λ ls. Replied ls m (string_bytes c.put-reply.new.text) (tables c.put-reply.new.book)) (sym ends)
-    (subst (λ t. Replied (line ∷ []) m t (tables c.put-reply.new.book)) (sym text) more.2)
+    let more = c.in_ok-put_reply.ensures line e in
+    let text : string_bytes c.put_reply.new.text ≡ more.0 = more.1 ∙ ap (λ l. l ++ more.0) c.new-text.ensures.bytes in
+    subst (λ ls. Replied ls m (string_bytes c.put_reply.new.text) (tables c.put_reply.new.book)) (sym ends)
+    (subst (λ t. Replied (line ∷ []) m t (tables c.put_reply.new.book)) (sym text) more.2)

@@ -5,9 +5,9 @@ use Rattle.console.proofs.blocks.put_reply.Goals as goal
 
 pub returns : goal.returns
 returns c = λ line e.
-    let a = c.in-ok-reply.ensures line (c.bytes.ensures ∙ e) in
-    let reply = c.as-str.result.now in (
+    let a = c.in_ok-reply.ensures line (c.bytes.ensures ∙ e) in
+    let reply = c.as_str.result.now in (
       reply ++ 10 ∷ [],
-      c.in-ok-add-line.ensures ∙ append_assoc (string_bytes c.args.text.now) reply (10 ∷ []),
-      replied_one line a.0 (tables c.args.book.now) (tables c.answer-line.new.book) (reply ++ 10 ∷ []) a.1 (ap (λ l. l ++ 10 ∷ []) (c.as-str.ensures.value ∙ a.2.0)) a.2.1,
+      c.in_ok-add_line.ensures ∙ append_assoc (string_bytes c.args.text.now) reply (10 ∷ []),
+      replied_one line a.0 (tables c.args.book.now) (tables c.answer_line.new.book) (reply ++ 10 ∷ []) a.1 (ap (λ l. l ++ 10 ∷ []) (c.as_str.ensures.value ∙ a.2.0)) a.2.1,
     )

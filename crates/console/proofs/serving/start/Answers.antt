@@ -6,7 +6,7 @@ use Rattle.console.proofs.serving.start.Goals as goal
 
 pub returns : goal.returns
 returns c = record {
-  book = c.new_book.ensures.memory;
+  book = c.new-book.ensures.memory;
   held = c.new-held.ensures;
-  sessions = every_session (subst (λ m. EveryScript m (new_book 16 64)) c.new_book.ensures.memory c.new_book.ensures.scripts);
+  sessions = every_session (subst (λ m. EveryScript m (new_book 16 64)) c.new-book.ensures.memory c.new-book.ensures.scripts);
 }

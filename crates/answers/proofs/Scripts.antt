@@ -11,11 +11,11 @@ use Rattle.route.specs.Routing.{Routed}
 use Rattle.margins.specs.Published.{ToldMargins}
 use Rattle.turn.specs.Outcomes.{Outcome}
 use Rattle.planner.proofs.Same.{alike}
-use Rattle.planner.specs.Promise.{Call, changes, routes, asks_margins, turns, Answer, line_number, line_count, route_told, margins_told, turn_told, load_told, call, plain_call, run, EveryHistory}
+use Rattle.planner.specs.Promise.{Call, changes, routes, asks_margins, turns, Answer, line_number, line_count, route_told, margins_told, turn_told, load_told, call, plain_call, EveryHistory}
 use Rattle.grammar.specs.declared.words.Command.{Command}
 use Rattle.grammar.specs.declared.words.Command.TheVariants.{Lay, Regrade, Lift, Route, Margins, Turn}
 use Rattle.answers.specs.Answers.{in_memory, plainly, blank, blank_margins, is_there, bridge_of, numbered, routed, margined, margins_along, turned, obeyed, replied, shown}
-use Rattle.answers.specs.Scripts.{Asked, served, EveryScript}
+use Rattle.answers.specs.Scripts.{served, EveryScript}
 
 -- ---- one call
 

@@ -1,4 +1,6 @@
 // Serves the scripts whose files are named as arguments, each on a new book, and prints its replies under its name.
+#![tactic(auto)]
+
 use console::serve;
 use std::env;
 use std::fs::File;

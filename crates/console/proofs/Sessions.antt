@@ -1,5 +1,5 @@
 -- However a script is cut into blocks, the text has the plain book's replies. Assumes nothing.
-use Rattle.std.proofs.Common.{◌≡◌, ℕ, List, [], ◌∷◌, ◌++◌, sym, ap, ◌∙◌, subst}
+use Rattle.std.proofs.Common.{ℕ, List, [], ◌∷◌, sym, ap, ◌∙◌, subst}
 use Rattle.grade.specs.declared.slots.Slots.{Slots}
 use Rattle.book.specs.Memory.{Memory}
 use Rattle.plain.specs.Plain.{new_book}

@@ -1,4 +1,6 @@
 // The bench's console: a script is read block by block, and each line is replied to.
+#![tactic(auto)]
+
 mod blocks;
 mod serving;
 

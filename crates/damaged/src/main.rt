@@ -1,5 +1,7 @@
 // Opens damaged stored surveys: every value of every byte of a small one, every truncation of it, and long chains.
 // What it prints is compared with what `tools/damaged_surveys.py` reads of the same bytes on its own.
+#![tactic(auto)]
+
 use grade::Refusal;
 use std::alloc::Global;
 use std::fmt::Write;

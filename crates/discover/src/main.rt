@@ -3,6 +3,8 @@
 //     discover ring K SLOTS START END      a ring of K bridges, every line with SLOTS slots
 //     discover file PATH START END         a stored survey in a file
 //     discover input START END             a stored survey on standard input
+#![tactic(auto)]
+
 use anyhow::anyhow;
 use discovery::{Detail, Refused, Request, report_ring, report_stored};
 use grade::Slots;

@@ -1,4 +1,6 @@
 // Runs cases of discovery one after another, and prints each under a heading.
+#![tactic(auto)]
+
 use discovery::{Detail, Request, report_ring, report_stored};
 use grade::{Class, Slots};
 

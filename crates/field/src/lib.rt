@@ -1,4 +1,6 @@
 // What discovery asks of a bus, and the ring plan that answers it.
+#![tactic(auto)]
+
 ghost use Rattle.std.specs.Prelude.{◌≡◌, ℕ};
 ghost use Rattle.field.specs.Meaning.{Told, Lawful, listing, far_at, grade_at};
 

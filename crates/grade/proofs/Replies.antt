@@ -1,6 +1,6 @@
 -- Replies and tests, by cases. Assumes nothing.
 use Rattle.std.proofs.Common.{◌≡◌, ℕ, Bool, true, false, cond, ◌⊎◌, refl, inl, inr, arith}
-use Rattle.grade.specs.Told.{Reply, answers, refuses}
+use Rattle.grade.specs.Told.{answers, refuses}
 
 pub refused-not : {X : Type 0} {r : ℕ × ℕ × ℕ} {x : X} → refuses r ≡ answers x → ⊥
 refused-not h = let z : ◌≡◌ {A = ℕ} 0 1 = cc in omega arith

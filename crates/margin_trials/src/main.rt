@@ -1,6 +1,8 @@
 // Tries margins on many small random networks. Each line is regraded to each end of its margin and to one slot past it, where an end
 // is told, and else as far as slots go, and route is asked again: the route has to be as wide as the widest within its margins, and
 // narrower past them. Prints how many were tried and how many went wrong.
+#![tactic(auto)]
+
 use book::{Head, Line};
 use grade::{Refusal, Slots};
 use margins::Margin;

@@ -1,5 +1,5 @@
 -- What is reached backward is what reaches forward. Assumes nothing.
-use Rattle.std.proofs.Common.{◌≡◌, ℕ, ◌≤◌, Bool, true, ◌⊎◌, List, [], ◌∷◌, map, sym, refl, ap, ◌∙◌, subst, inl, inr}
+use Rattle.std.proofs.Common.{◌≡◌, ℕ, ◌≤◌, Bool, true, List, [], ◌∷◌, sym, refl, ap, ◌∙◌, subst, inl, inr}
 use Rattle.theory.specs.Lists.{In, Each}
 use Rattle.theory.specs.Order.{better}
 use Rattle.theory.specs.Arcs.{Arc, Joins, Apart, AllApart, Proper, Lines}

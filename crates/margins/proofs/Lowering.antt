@@ -2,11 +2,11 @@
 use Rattle.std.proofs.Common.{◌≡◌, ℕ, Bool, true, false, cond, eqb, List, [], ◌∷◌, Some, None, Option as Held, sym, refl, ap, ◌∙◌}
 use mathlib.Core.Option.{Option, none, some}
 use Rattle.theory.specs.Order.{lower}
-use Rattle.theory.specs.Arcs.{Arc, width, lowest, numbered}
+use Rattle.theory.specs.Arcs.{Arc, width, lowest}
 use Rattle.theory.specs.Delivery.{with_line}
 use Rattle.theory.specs.Margins.{without}
 use Rattle.search.specs.Widths.{as_held}
-use Rattle.margins.specs.Picking.{picked, lowest_with}
+use Rattle.margins.specs.Picking.{lowest_with}
 
 module _ {G : Type 0} (le : G → G → Bool) where
   lowest-some : (g : G) (p : List (Arc G)) → lowest_with le (Some g) p ≡ Some (lowest le g p)

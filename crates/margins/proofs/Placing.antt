@@ -1,12 +1,12 @@
 -- The records of a table's slots are those of its standing lines. Assumes nothing.
 use Rattle.std.proofs.Common.{◌≡◌, ℕ, suc, ◌<◌, Bool, true, false, cond, eqb, List, [], ◌∷◌, sym, refl, ap, ◌∙◌, arith, ne_eqb}
-use mathlib.Core.Option.{Option, none, some}
+use mathlib.Core.Option.{some}
 use Rattle.theory.specs.Arcs.{Arc, numbered}
 use Rattle.theory.proofs.Tests.{eqb_self}
 use Rattle.book.specs.declared.memory.Line.{Line}
 use Rattle.standing.specs.Standing.{arc, standing_from}
 use Rattle.margins.specs.declared.margin.Margin.{Margin}
-use Rattle.margins.specs.Telling.{record_of, margins_in, record_at, placed}
+use Rattle.margins.specs.Telling.{margins_in, record_at, placed}
 use Rattle.margins.proofs.Picking.{below_standing}
 
 module _ {G : Type 0} (of : Arc G → Margin G) where

@@ -1,5 +1,5 @@
 -- A bridge reaches another over lines better than w exactly where they are one, or the best width between them is better than w. Assumes nothing.
-use Rattle.std.proofs.Common.{◌≡◌, ℕ, Bool, true, false, not, List, Some, None, Option as Held, sym, refl, ap, ◌∙◌}
+use Rattle.std.proofs.Common.{◌≡◌, ℕ, Bool, true, false, not, List, Some, None, Option as Held, sym, refl}
 use mathlib.Core.Option.{Option, none, some}
 use Rattle.theory.specs.Order.{Ranked, better}
 use Rattle.theory.specs.Arcs.{Arc, Pair, Lines, Answer}

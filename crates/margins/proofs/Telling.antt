@@ -1,5 +1,5 @@
 -- Margins in memory, slot after slot. Assumes nothing.
-use Rattle.std.proofs.Common.{◌≡◌, ℕ, zero, suc, ◌+◌, ◌<◌, ◌≤◌, Bool, true, false, cond, ◌||◌, eqb, List, [], ◌∷◌, ◌++◌, length, get_or, take, drop, set, Some, None, Option as Held, sym, refl, ap, ◌∙◌, subst, append_assoc, arith, take-append-drop, drop-set-lt, ne_eqb}
+use Rattle.std.proofs.Common.{◌≡◌, ℕ, suc, ◌+◌, ◌<◌, Bool, true, false, cond, ◌||◌, eqb, List, [], ◌∷◌, ◌++◌, length, get_or, take, drop, set, Option as Held, sym, refl, ap, ◌∙◌, subst, append_assoc, arith, take-append-drop, drop-set-lt, ne_eqb}
 use mathlib.Core.Option.{Option, none, some}
 use Rattle.std.proofs.lemmas.List.{drop_more, take_more_set}
 use Rattle.theory.specs.Lists.{among}

@@ -1,16 +1,16 @@
 -- The verdict on line numbers, step by step. Assumes nothing.
-use Rattle.std.proofs.Common.{◌≡◌, ℕ, zero, suc, ◌<◌, ◌≤◌, Bool, true, false, cond, eqb, ◌⊎◌, List, [], ◌∷◌, Some, None, Option as Held, sym, refl, ap, ◌∙◌, subst, inl, inr, ⊎_elim, arith, ne_eqb}
+use Rattle.std.proofs.Common.{◌≡◌, ℕ, suc, ◌<◌, ◌≤◌, Bool, true, false, cond, eqb, ◌⊎◌, List, [], ◌∷◌, Option as Held, sym, refl, ap, ◌∙◌, subst, inl, inr, ⊎_elim, arith, ne_eqb}
 use mathlib.Core.Path.{fun_ext}
 use mathlib.Core.Option.{Option, none, some}
 use Rattle.std.proofs.lemmas.Bool.{cases_eq, cases_lt}
-use Rattle.theory.specs.Lists.{In, Each, among}
+use Rattle.theory.specs.Lists.{Each, among}
 use Rattle.theory.specs.Arcs.{Arc, Pair, Lines, width, numbered, all_numbered, numbers}
-use Rattle.theory.specs.Routes.{route_ends, EndsRight}
+use Rattle.theory.specs.Routes.{EndsRight}
 use Rattle.theory.specs.Delivery.{with_line}
 use Rattle.theory.specs.Widest.{best_width}
 use Rattle.theory.specs.Margins.{Margin, without, on, margin_by, margin}
-use Rattle.theory.specs.Verdicts.{Verdict, no_route, outdone, accepted, verdict_on, compared, if_route, if_standing, margins_of}
-use Rattle.theory.proofs.Tests.{none_some, some_same}
+use Rattle.theory.specs.Verdicts.{no_route, compared, if_route, if_standing, margins_of}
+use Rattle.theory.proofs.Tests.{none_some}
 use Rattle.theory.proofs.Lists.{each_at}
 use Rattle.theory.proofs.Lines.{numbered_in, all_in}
 use Rattle.theory.proofs.RouteEnds.{ends_told, route_pair}

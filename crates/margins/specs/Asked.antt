@@ -1,5 +1,5 @@
 -- A widest route whose margins are asked. Assumes nothing.
-use Rattle.std.specs.Prelude.{◌≡◌, ℕ, ◌<◌, Bool, cond, List, length, Some, None}
+use Rattle.std.specs.Prelude.{◌≡◌, ℕ, ◌<◌, Bool, cond, length, Some, None}
 use Rattle.theory.specs.Lists.{among}
 use Rattle.theory.specs.Arcs.{Arc, Lines, Pair}
 use Rattle.theory.specs.Margins.{margin_by}

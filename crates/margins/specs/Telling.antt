@@ -1,5 +1,5 @@
 -- Margins as they are told and lie in memory. Assumes nothing.
-use Rattle.std.specs.Prelude.{ℕ, suc, Bool, cond, List, [], ◌∷◌, Some, None, Option as Held, ◌==◌}
+use Rattle.std.specs.Prelude.{ℕ, suc, cond, List, [], ◌∷◌, Some, None, Option as Held, ◌==◌}
 use Rattle.std.proofs.Math.Option.{Option, none, some}
 use Rattle.grade.specs.Told.{Reply, answers, refused}
 use Rattle.theory.specs.Arcs.{Arc, numbered}

@@ -1,4 +1,6 @@
 // How far each line's grade may move while a widest route stays widest, over handed-over memory, for every kind of grade.
+#![tactic(auto)]
+
 mod asked;
 mod given;
 mod judging;

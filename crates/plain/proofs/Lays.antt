@@ -1,15 +1,15 @@
 -- One line more, on both books. Assumes nothing.
-use Rattle.std.proofs.Common.{◌≡◌, ℕ, zero, suc, ◌+◌, ◌-◌, ◌*◌, ◌<◌, ◌≤◌, Bool, true, false, cond, ◌&&◌, eqb, leb, List, [], ◌∷◌, ◌++◌, length, sym, refl, ap, ◌∙◌, subst, arith}
+use Rattle.std.proofs.Common.{◌≡◌, ℕ, ◌+◌, ◌*◌, ◌≤◌, leb, List, [], ◌∷◌, ◌++◌, length, sym, refl, ap, ◌∙◌, subst, arith}
 use mathlib.Core.Option.{Option, none, some}
 use Rattle.std.proofs.lemmas.Bool.{le-leb, ne_eqb, cond-true, cond-false, and_from}
 use Rattle.theory.specs.Arcs.{Arc, line}
 use Rattle.theory.specs.Chains.{chain}
-use Rattle.grade.specs.Told.{Reply, answers, refused, unless_refused}
+use Rattle.grade.specs.Told.{Reply, answers, unless_refused}
 use Rattle.book.specs.Memory.{Memory}
 use Rattle.book.specs.Chains.{slots_on}
 use Rattle.book.specs.Lawful.{nexts, chain_of}
 use Rattle.book.specs.Admission.{is_bridge}
-use Rattle.lines.specs.Calls.{last_of, with_line, laying, line_of}
+use Rattle.lines.specs.Calls.{last_of, with_line, line_of}
 use Rattle.plain.specs.Plain.{Plain, Agrees, plain_admission, lay_free, lay_unless, plain_laying}
 use Rattle.theory.specs.Arcs.{numbers}
 use Rattle.plain.proofs.Links.{linked_from}

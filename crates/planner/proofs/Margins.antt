@@ -1,6 +1,5 @@
 -- Margins on the book in memory and on the plain book answer alike. Assumes nothing.
-use Rattle.std.proofs.Common.{◌≡◌, ℕ, suc, ◌+◌, ◌*◌, Bool, cond, leb, List, [], ◌∷◌, length, sym, refl, ap, ◌∙◌}
-use mathlib.Core.Option.{Option}
+use Rattle.std.proofs.Common.{◌≡◌, ℕ, suc, ◌+◌, ◌*◌, Bool, cond, leb, List, [], ◌∷◌, length, refl, ap, ◌∙◌}
 use Rattle.theory.specs.Arcs.{Arc, numbered}
 use Rattle.theory.specs.Verdicts.{Verdict, no_route, outdone, accepted, margins_of}
 use Rattle.grade.specs.Told.{Reply, answers, refused, unless_refused}
@@ -11,7 +10,7 @@ use Rattle.plain.specs.Plain.{Plain, Agrees}
 use Rattle.plain.proofs.Agreement.{agrees_lawful}
 use Rattle.margins.specs.declared.margin.Margin.{Margin}
 use Rattle.margins.specs.Telling.{as_margin, record_at, placed, verdict_told}
-use Rattle.margins.specs.Published.{ToldMargins, margins_admission, margins_asked}
+use Rattle.margins.specs.Published.{margins_admission, margins_asked}
 use Rattle.planner.specs.Plain.{plain_margins_admission, margins_over, plain_margins}
 use Rattle.planner.proofs.Same.{alike}
 

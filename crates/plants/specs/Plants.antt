@@ -1,23 +1,21 @@
 -- Small plans of discovery with known answers, as rows of one table over the definitions. Proved: every row holds. Assumes nothing.
 use Rattle.std.specs.Prelude.{◌≡◌, List, [], ◌∷◌, ℕ, zero, suc, ◌+◌, replicate}
 use Rattle.theory.specs.Lists.{Each}
-use Rattle.theory.specs.Arcs.{Arc, graded}
+use Rattle.theory.specs.Arcs.{graded}
 use Rattle.theory.specs.Plants.{Plan, ring}
 use Rattle.grade.specs.declared.slots.Slots.{Slots}
 use Rattle.grade.specs.Kinds.{slots_of, slots_grade, slots_le}
 use Rattle.grade.specs.Told.{Reply, answers, refuses, and_then}
-use Rattle.book.specs.declared.memory.Head.{Head}
 use Rattle.book.specs.declared.memory.Line.{Line}
 use Rattle.book.specs.Memory.{Memory, memory}
 use Rattle.book.specs.Opening.{fresh}
-use Rattle.plain.specs.Plain.{Plain, new_book}
-use Rattle.field.specs.Meaning.{Told, silent, listed, Entry}
+use Rattle.plain.specs.Plain.{new_book}
+use Rattle.field.specs.Meaning.{Told, silent, listed}
 use Rattle.field.specs.Ring.{ring_tells}
 use Rattle.stored.specs.Stored.{opened, stored_tells}
 use Rattle.survey.specs.Walk.{Progress, walked}
 use Rattle.survey.specs.Recording.{surveying}
 use Rattle.survey.specs.Plain.{plain_surveying}
-use Rattle.route.specs.declared.found.Found.{Found}
 use Rattle.route.specs.Routing.{Routed, routing}
 
 -- a question, with its known answer

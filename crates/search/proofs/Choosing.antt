@@ -1,8 +1,8 @@
 -- The choice of the bridge to take next. Assumes nothing.
-use Rattle.std.proofs.Common.{◌≡◌, ℕ, zero, suc, ◌≤◌, Bool, true, false, cond, List, get_or, Some, None, Option as Held, sym, refl, ap, ◌∙◌, arith, MatchOption}
+use Rattle.std.proofs.Common.{◌≡◌, ℕ, suc, Bool, true, false, cond, List, get_or, Some, None, Option as Held, refl, arith}
 use mathlib.Core.Option.{Option, none, some}
 use Rattle.theory.specs.Order.{better}
-use Rattle.theory.specs.Search.{Mark, State, best, choose, Choice as ChosenMark}
+use Rattle.theory.specs.Search.{best, choose, Choice as ChosenMark}
 use Rattle.search.specs.declared.choice.Choice.{Choice}
 use Rattle.search.specs.Marks.{mark_of, state_of, takens}
 use Rattle.search.specs.Choices.{choice, forget, pick, Chosen, Choosing}

@@ -1,8 +1,8 @@
 -- The tables of a lawful book hold its standing lines. Assumes nothing.
-use Rattle.std.proofs.Common.{◌≡◌, ℕ, zero, suc, ◌+◌, ◌-◌, ◌<◌, ◌≤◌, Bool, true, false, cond, not, ◌&&◌, eqb, ltb, leb, ◌⊎◌, List, [], ◌∷◌, length, get_or, sym, refl, ap, ◌∙◌, subst, inl, inr, ⊎_elim, arith}
+use Rattle.std.proofs.Common.{◌≡◌, ℕ, zero, suc, ◌+◌, ◌-◌, ◌≤◌, Bool, true, false, cond, ◌&&◌, eqb, ltb, leb, List, [], ◌∷◌, length, get_or, sym, refl, ap, ◌∙◌, subst, inl, inr, ⊎_elim, arith}
 use mathlib.Core.Option.{Option, none, some}
 use Rattle.std.proofs.lemmas.List.{length-map}
-use Rattle.std.proofs.lemmas.Bool.{cases_eq, cases_lt, cases_Bool, cond-true, eq-eqb, ne_eqb, lt-ltb, le-ltb, le-leb, lt-leb, leb-true, and_left, and_right, and_from, and_parts}
+use Rattle.std.proofs.lemmas.Bool.{cases_eq, cases_lt, cond-true, eq-eqb, ne_eqb, lt-ltb, le-ltb, le-leb, lt-leb, and_left, and_right, and_from}
 use Rattle.theory.specs.Lists.{In, Each}
 use Rattle.theory.specs.Arcs.{Arc, line}
 use Rattle.theory.proofs.Tests.{none_some}
@@ -11,11 +11,11 @@ use Rattle.theory.proofs.Lines.{line_in, line_of}
 use Rattle.book.specs.declared.memory.Line.{Line}
 use Rattle.book.specs.Memory.{Memory}
 use Rattle.book.specs.Chains.{at, chain as slots_from}
-use Rattle.book.specs.Lawful.{nears, fars, nexts, other_bridge, lawful}
+use Rattle.book.specs.Lawful.{nears, fars, nexts, lawful}
 use Rattle.book.proofs.Walks.{chain_end, chain_out, chain_spent, chain-step}
 use Rattle.book.proofs.Leads.{clash, same_chain, split_before, other_bridge_within}
 use Rattle.book.proofs.Sizes.{sound}
-use Rattle.standing.specs.Standing.{arc, line_at, standing}
+use Rattle.standing.specs.Standing.{arc, standing}
 use Rattle.standing.proofs.Slots.{at_part, line_there, in_standing, belong_in}
 use Rattle.standing.proofs.Chains.{with_slot, arcs_on, arcs_in, lead_other, lead_distinct, ChainTold, chain-told}
 use Rattle.standing.proofs.Standing.{on_chain, standing-told}

@@ -1,9 +1,8 @@
 -- What a number in memory stands for. Assumes nothing.
-use Rattle.std.proofs.Common.{◌≡◌, ℕ, zero, suc, ◌-◌, ◌<◌, ◌≤◌, List, [], ◌∷◌, length, get_or, Some, None, Option, sym, refl, ap, ◌∙◌, arith}
+use Rattle.std.proofs.Common.{◌≡◌, ℕ, zero, suc, ◌-◌, ◌<◌, ◌≤◌, List, length, get_or, Some, None, sym, refl, ap, ◌∙◌, arith}
 use Rattle.std.specs.List.{slice_get}
 use Rattle.std.proofs.lemmas.Option.{slice_get-get_or, slice_get_past}
 use Rattle.book.specs.declared.memory.Line.{Line}
-use Rattle.theory.specs.declared.labels.Label.{Label}
 use Rattle.theory.specs.declared.labels.Label.TheVariants.{Unlimited, Limited}
 use Rattle.standing.specs.Standing.{line_at}
 use Rattle.search.specs.Labels.{label_of, grade_label}

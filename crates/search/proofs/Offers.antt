@@ -1,7 +1,7 @@
 -- What offering along lines makes of the marks. Assumes nothing.
-use Rattle.std.proofs.Common.{◌≡◌, ℕ, suc, ◌<◌, Bool, true, false, cond, eqb, ◌≢◌, ◌⊎◌, List, [], ◌∷◌, map, length, get_or, set, Some, None, Option as Held, sym, refl, ap, ◌∙◌, inl, inr, get_or-set_other, get_or-set_same, ne_eqb, eqb-true}
+use Rattle.std.proofs.Common.{◌≡◌, ℕ, suc, ◌<◌, Bool, true, false, cond, eqb, ◌≢◌, List, [], ◌∷◌, map, length, get_or, set, Some, None, Option as Held, sym, refl, ap, ◌∙◌, inl, inr, get_or-set_other, get_or-set_same, ne_eqb, eqb-true}
 use mathlib.Core.Path.{fun_ext}
-use mathlib.Core.Option.{Option, none, some}
+use mathlib.Core.Option.{none, some}
 use borrow.Author.Tests.{eqb-false}
 use Rattle.theory.specs.Lists.{In, Distinct}
 use Rattle.theory.specs.Arcs.{Arc}

@@ -1,7 +1,7 @@
 -- One turn of the search, by the choice as the code holds it. Assumes nothing.
 use Rattle.std.proofs.Common.{◌≡◌, ℕ, suc, Bool, true, false, eqb, Some, None, Option as Held, sym, refl, ap, ◌∙◌}
 use mathlib.Core.Option.{Option, none, some}
-use Rattle.theory.specs.Search.{Mark, State, Rule, best, turn, turn_at, take_end, take_bridge, search_from, Choice as ChosenMark}
+use Rattle.theory.specs.Search.{State, Rule, best, turn, turn_at, take_end, take_bridge, search_from, Choice as ChosenMark}
 use Rattle.search.specs.declared.choice.Choice.{Choice}
 use Rattle.search.specs.Choices.{forget}
 

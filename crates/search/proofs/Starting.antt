@@ -1,10 +1,10 @@
 -- The state before the first turn. Assumes nothing.
-use Rattle.std.proofs.Common.{◌≡◌, ℕ, ◌<◌, Bool, true, false, cond, not, eqb, List, length, get_or, set, Some, None, Option as Held, sym, refl, ap, ◌∙◌, get_or-set_other, get_or-set_same, eqb-true}
+use Rattle.std.proofs.Common.{◌≡◌, ℕ, ◌<◌, Bool, true, false, cond, not, eqb, List, length, get_or, set, Some, None, Option as Held, refl, ap, ◌∙◌, get_or-set_other, get_or-set_same, eqb-true}
 use mathlib.Core.Path.{fun_ext}
-use mathlib.Core.Option.{Option, none, some}
+use mathlib.Core.Option.{none, some}
 use borrow.Author.Tests.{eqb-false}
-use Rattle.theory.specs.Search.{Mark, start}
-use Rattle.search.specs.Marks.{mark_of, marks, state_of}
+use Rattle.theory.specs.Search.{start}
+use Rattle.search.specs.Marks.{mark_of, state_of}
 use Rattle.search.proofs.States.{state_path}
 
 -- one number written among zeros

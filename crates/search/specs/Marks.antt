@@ -1,5 +1,5 @@
 -- Working memory as the state of the search: labels are numbers, and `read` tells what each stands for. Assumes nothing.
-use Rattle.std.specs.Prelude.{ℕ, zero, suc, Bool, true, false, cond, not, List, [], ◌∷◌, Some, None, Option as Held, ◌==◌, slice_index}
+use Rattle.std.specs.Prelude.{ℕ, Bool, true, cond, not, List, [], ◌∷◌, Some, None, Option as Held, ◌==◌, slice_index}
 use Rattle.std.proofs.Math.Option.{Option, none, some}
 use Rattle.theory.specs.Arcs.{Arc}
 use Rattle.theory.specs.Order.{better}

@@ -1,5 +1,7 @@
 // The search over any net of lines in working memory, and a book's tables as such a net. An inner layer: the published
 // questions check the book and the lengths of memory before they call it.
+#![tactic(auto)]
+
 mod begin;
 mod best;
 mod chain;

@@ -1,6 +1,8 @@
 // How long a route question takes on a large network, the margins of its lines, and the lines to turn: a ring of 256 bridges both
 // ways with 512 random chords.
 // The gate runs it without words and compares what it found; with the word `figures` it prints times as well.
+#![tactic(auto)]
+
 use book::{Head, Line};
 use grade::{Refusal, Slots};
 use margins::Margin;

@@ -1,4 +1,6 @@
 // A survey stored as bytes: opening it, and the three questions of a field.
+#![tactic(auto)]
+
 ghost use Rattle.std.specs.Prelude.{◌≡◌};
 ghost use Rattle.grade.specs.Told.{told};
 ghost use Rattle.stored.specs.Laws.{stored_lawful};

@@ -1,4 +1,6 @@
 // Questions on slots books: the lines to turn round for a wider route, and the load.
+#![tactic(auto)]
+
 mod answer;
 mod doubled;
 mod pairs;

@@ -1,6 +1,8 @@
 // Tries turn on many small random networks: for every pair of bridges every set of lines is turned, and the widest route looked for
 // in another way. Prints how many questions were told a route, how many none, how many of the told routes need a turned line, and
 // how many answers were wrong.
+#![tactic(auto)]
+
 ghost use Rattle.std.specs.Prelude.{◌<◌};
 
 use book::{Head, Line};

@@ -1,4 +1,4 @@
-use Rattle.std.proofs.Common.{◌≡◌, ℕ, ◌+◌, ◌-◌, List, set, refl, ap, ◌∙◌}
+use Rattle.std.proofs.Common.{ℕ, ◌+◌, ◌-◌, set, refl, ap, ◌∙◌}
 use Rattle.book.specs.declared.memory.Head.{Head}
 use Rattle.book.specs.Memory.{memory}
 use Rattle.lines.specs.Calls.{new_line, relinked}

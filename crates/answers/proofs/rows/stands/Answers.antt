@@ -1,4 +1,4 @@
-use Rattle.std.proofs.Common.{◌≡◌, Bool, not, sym, ap, ◌∙◌}
+use Rattle.std.proofs.Common.{ap, ◌∙◌}
 use Rattle.margins.specs.Picking.{as_arc}
 use Rattle.margins.proofs.Picking.{stood, numbered-standing}
 use Rattle.answers.specs.Answers.{is_there}

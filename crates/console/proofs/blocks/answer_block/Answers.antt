@@ -1,4 +1,4 @@
-use Rattle.std.proofs.Common.{◌≡◌, ℕ, ◌+◌, ◌-◌, ◌≤◌, List, length, take, drop, string_bytes, sym, subst, arith, length-drop, take_all}
+use Rattle.std.proofs.Common.{◌≡◌, ℕ, ◌-◌, List, length, take, drop, sym, subst, arith, length-drop, take_all}
 use Rattle.answers.specs.Answers.{tables}
 use Rattle.input.specs.Filling.{kept}
 use Rattle.console.proofs.Going.{Going, going_none, going_more, going_end}

@@ -1,4 +1,4 @@
-use Rattle.std.proofs.Common.{◌≡◌, [], ◌∷◌, ◌++◌, string_bytes, ap, ◌∙◌, append_assoc}
+use Rattle.std.proofs.Common.{[], ◌∷◌, ◌++◌, string_bytes, ap, ◌∙◌, append_assoc}
 use Rattle.answers.specs.Answers.{tables}
 use Rattle.console.proofs.Going.{replied_one}
 use Rattle.console.proofs.blocks.put_reply.Goals as goal

@@ -1,9 +1,8 @@
-use Rattle.std.proofs.Common.{◌≡◌, sym, refl, ap, ◌∙◌, arith}
-use mathlib.Core.Option.{Option, none, some}
+use Rattle.std.proofs.Common.{sym, refl, ap, ◌∙◌, arith}
+use mathlib.Core.Option.{none, some}
 use Rattle.grade.specs.Told.{answers}
 use Rattle.theory.specs.Arcs.{width as width_along}
 use Rattle.theory.specs.Widest.{best_width}
-use Rattle.theory.specs.Margins.{without}
 use Rattle.theory.specs.Verdicts.{verdict_on, accepted}
 use Rattle.margins.specs.Standing.{standing}
 use Rattle.margins.specs.Picking.{picked}

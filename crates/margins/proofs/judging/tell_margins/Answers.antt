@@ -1,4 +1,4 @@
-use Rattle.std.proofs.Common.{◌≡◌, ap, ◌∙◌, arith}
+use Rattle.std.proofs.Common.{ap, ◌∙◌, arith}
 use Rattle.theory.specs.Reach.{marks}
 use Rattle.margins.specs.Standing.{standing}
 use Rattle.margins.proofs.Facing.{faced_forward, reaches-back}

@@ -1,4 +1,4 @@
-use Rattle.std.proofs.Common.{◌≡◌, not, sym, ap, ◌∙◌}
+use Rattle.std.proofs.Common.{not, ap, ◌∙◌}
 use Rattle.theory.specs.Margins.{without}
 use Rattle.theory.specs.Arcs.{Pair}
 use Rattle.theory.proofs.MarginEnds.{lines_without}

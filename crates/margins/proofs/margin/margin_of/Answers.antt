@@ -1,4 +1,4 @@
-use Rattle.std.proofs.Common.{◌≡◌, Bool, ◌&&◌, sym, ap, ◌∙◌}
+use Rattle.std.proofs.Common.{◌&&◌, ap, ◌∙◌}
 use Rattle.standing.specs.Standing.{arc}
 use Rattle.margins.specs.Asked.{margin_if, margin_off}
 use Rattle.margins.proofs.Telling.{off_told}

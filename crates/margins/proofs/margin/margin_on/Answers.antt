@@ -1,4 +1,4 @@
-use Rattle.std.proofs.Common.{◌≡◌, ap, ◌∙◌, arith}
+use Rattle.std.proofs.Common.{ap, ◌∙◌, arith}
 use Rattle.theory.specs.Margins.{without, limit_reached}
 use Rattle.standing.specs.Standing.{arc}
 use Rattle.search.specs.Widths.{as_held}

@@ -1,4 +1,4 @@
-use Rattle.std.proofs.Common.{◌≡◌, ℕ, suc, ◌<◌, ◌||◌, length, sym, refl, ap, ◌∙◌, add-one, arith}
+use Rattle.std.proofs.Common.{◌≡◌, ℕ, suc, ◌||◌, sym, refl, ap, ◌∙◌, add-one, arith}
 use Rattle.theory.specs.Reach.{leads, marks}
 use Rattle.theory.proofs.Lists.{each_map}
 use Rattle.search.specs.Marks.{takens}

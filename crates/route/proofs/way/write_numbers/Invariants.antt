@@ -1,4 +1,4 @@
-use Rattle.std.proofs.Common.{◌≡◌, ◌≤◌, ◌++◌, length, take, drop}
+use Rattle.std.proofs.Common.{◌≡◌, ◌≤◌, ◌++◌, take, drop}
 use Rattle.search.specs.Chains.{table_line}
 use Rattle.theory.specs.Arcs.{numbers as numbers_of}
 use Rattle.route.specs.Outcomes.{lines_by}

@@ -1,6 +1,6 @@
-use Rattle.std.proofs.Common.{◌≡◌, ℕ, suc, ◌+◌, [], get_or, sym, refl, ap, ◌∙◌, add-one, arith}
+use Rattle.std.proofs.Common.{◌≡◌, suc, [], get_or, sym, refl, ap, ◌∙◌, add-one, arith}
 use Rattle.search.specs.Marks.{takens}
-use Rattle.search.specs.Choices.{pick, Choosing}
+use Rattle.search.specs.Choices.{pick}
 use Rattle.search.proofs.Choosing.{best-more, pick_chosen}
 use Rattle.search.proofs.best.best.Goals as goal
 

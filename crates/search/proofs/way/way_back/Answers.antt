@@ -1,4 +1,4 @@
-use Rattle.std.proofs.Common.{◌≡◌, ℕ, suc, ◌+◌, ◌-◌, ◌<◌, List, ◌∷◌, length, get_or, drop, sym, ap, ◌∙◌, arith, eq-eqb, ne_eqb}
+use Rattle.std.proofs.Common.{◌≡◌, ℕ, suc, ◌+◌, ◌-◌, ◌<◌, ◌∷◌, length, get_or, drop, sym, ap, ◌∙◌, arith, eq-eqb, ne_eqb}
 use lib.Seq.{drop-length}
 use Rattle.std.proofs.lemmas.List.{drop-set, get_or_past}
 use Rattle.search.specs.Ways.{back}

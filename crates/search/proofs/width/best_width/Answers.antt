@@ -1,4 +1,4 @@
-use Rattle.std.proofs.Common.{◌≡◌, ap, ◌∙◌}
+use Rattle.std.proofs.Common.{ap, ◌∙◌}
 use Rattle.theory.specs.Margins.{without}
 use Rattle.search.specs.Chains.{Lookup, searched}
 use Rattle.search.proofs.Skipping.{holds_without}

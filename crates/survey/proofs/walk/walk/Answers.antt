@@ -1,6 +1,6 @@
 use Rattle.std.proofs.Common.{◌-◌, get_or, sym, ap, ◌∙◌, arith}
 use Rattle.std.proofs.lemmas.Result.{err_from_is_err_and}
-use Rattle.survey.specs.Walk.{read_bridge, walked}
+use Rattle.survey.specs.Walk.{read_bridge}
 use Rattle.survey.specs.Working.{stands_for}
 use Rattle.survey.proofs.Walks.{walks_all}
 use Rattle.survey.proofs.Taking.{found_none, count_found, walk_end, walk_take}

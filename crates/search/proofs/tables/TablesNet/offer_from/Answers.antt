@@ -1,7 +1,6 @@
-use Rattle.std.proofs.Common.{◌≡◌, ℕ, ◌+◌, ◌<◌, List, length, sym, ap, ◌∙◌, subst}
+use Rattle.std.proofs.Common.{ℕ, ◌+◌, ◌<◌, length, sym, ap, ◌∙◌, subst}
 use mathlib.Core.Path.{fun_ext}
 use Rattle.theory.specs.Lists.{Each}
-use Rattle.theory.specs.Arcs.{Arc}
 use Rattle.theory.specs.Widest.{label_le, narrow}
 use Rattle.theory.specs.Margins.{without}
 use Rattle.search.specs.Labels.{label_of}

@@ -7,7 +7,7 @@ import re
 import sys
 
 NAME = r"[A-Za-zℕ0-9_'-]+"
-TOKEN = re.compile(r"(?<![\w'-])[A-Za-z][\w']*(?:-[\w']+)+(?![\w'-])")
+TOKEN = re.compile(r"(?<![\w'-])(?:[A-Za-z][\w']*(?:-[\w']+)+|[A-Z][\w']*_[\w']+)(?![\w'-])")
 DEFINED = re.compile(r"^(\s*)((?:pub |abbrev |unfoldable |data |record )*)(" + NAME + r") (?:\{|\(|:)")
 # names of the library that a lemma's name may join
 WORDS = set("length append take drop map reverse set get_or add sub mul le lt cond not and or sum eq suc zero refl head last".split())
@@ -121,7 +121,7 @@ def renamed(root):
             known.add(name.replace("-", "_"))
     table = {}
     for name, of in sorted(kinds.items()):
-        if "-" not in name or name in taken:
+        if name in taken or not ("-" in name or name[0].isupper() and "_" in name):
             continue
         if "type" in of:
             table[name] = camel(name)

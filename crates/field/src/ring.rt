@@ -1,5 +1,5 @@
 // A plan of bridges in a ring, all lines of one grade.
-ghost use Rattle.std.specs.Prelude.{◌≡◌, ◌≤◌, ◌&&◌, leb, if◌then◌else◌, nat_le};
+ghost use Rattle.std.specs.Prelude.{◌≡◌, ◌≤◌, ◌&&◌, if◌then◌else◌, nat_le};
 ghost use Rattle.grade.specs.Told.{told, answers, refused};
 ghost use Rattle.field.specs.Ring.{next_of, before_of, ring_tells};
 ghost use Rattle.field.specs.Laws.{ring_lawful};
@@ -41,7 +41,7 @@ fn bridge_before(size: u16, bridge: u16) -> u16
 impl<G: Grade> RingPlan<G> {
     // A ring of `size` bridges, 2 to 256.
     pub fn new(size: u16, grade: G) -> Result<RingPlan<G>, Refusal>
-        ensures { told (λ p. ring_tells p.size p.grade) result ≡ (if leb 2 size && nat_le size 256 then answers (ring_tells size grade) else refused 16) }
+        ensures { told (λ p. ring_tells p.size p.grade) result ≡ (if nat_le 2 size && nat_le size 256 then answers (ring_tells size grade) else refused 16) }
     {
         if size < 2 || size > 256 {
             return Err(Refusal::WrongSize);

@@ -1,5 +1,5 @@
 // What opening checks: the chains one after the other, and the slots.
-ghost use Rattle.std.specs.Prelude.{◌≡◌, ◌+◌, ◌-◌, ◌*◌, ◌≤◌, false, not, length, get_or, if◌then◌else◌, None, slice_index_or};
+ghost use Rattle.std.specs.Prelude.{◌≡◌, ◌+◌, ◌-◌, ◌*◌, ◌≤◌, false, not, length, if◌then◌else◌, None, slice_index_or};
 ghost use Rattle.grade.specs.Told.{told};
 ghost use Rattle.stored.specs.Stored.{head_of, stored_at, next_in, lowest, wrong_slots};
 ghost use Rattle.stored.specs.Marks.{record_at, follow_marks, follow_all_marks};
@@ -11,7 +11,7 @@ use grade::{Refusal, Slots};
 fn fresh_record(bytes: &[u8], base: usize, count: u16, index: u16, met: &[bool]) -> Option<Record>
     requires count_in_bounds { base + 8 * count ≤ length bytes.now }
     requires count_in_bounds_2 { count ≤ length met.now }
-    ensures { result ≡ (if get_or met.now (index - 1) false then None else record_at bytes.now base count index) }
+    ensures { result ≡ (if slice_index_or met.now (index - 1) false then None else record_at bytes.now base count index) }
 {
     let record = find_record(bytes, base, count, index)?;
     if met[index as usize - 1] {

@@ -1,5 +1,5 @@
 -- What a question for the lines to turn answers, and what it leaves in memory. Assumes nothing.
-use Rattle.std.specs.Prelude.{ℕ, cond, ◌&&◌, leb, List, [], ◌∷◌, ◌++◌, length, drop, None, Option as Held, nat_le, nat_lt}
+use Rattle.std.specs.Prelude.{ℕ, cond, ◌&&◌, List, [], ◌∷◌, ◌++◌, length, drop, None, Option as Held, nat_le, nat_lt}
 use Rattle.std.proofs.Math.Option.{Option, none, some}
 use Rattle.theory.specs.Arcs.{Arc}
 use Rattle.theory.specs.Search.{State, search, way_in}
@@ -75,4 +75,4 @@ turn_by lines look n a z s = turn_of lines look a (way_in n s a z []) (state_wid
 
 -- the search with both directions added together
 abbrev pub both_search : ℕ → List Row → ℕ → ℕ → State (Label ℕ)
-both_search n lines a z = search (label_le leb) (both_rule n lines) n a Unlimited z
+both_search n lines a z = search (label_le nat_le) (both_rule n lines) n a Unlimited z

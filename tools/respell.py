@@ -34,7 +34,7 @@ def read(path):
 
 
 def defined(root):
-    """Each name defined in specs and proofs, with its kinds: type, function, field, lemma."""
+    """Each name defined in specs and proofs, with its kinds: type, function, field, alias, lemma."""
     kinds = {}
     for path in files(root, (".antt",)):
         if is_made(path):
@@ -48,7 +48,7 @@ def defined(root):
                 continue
             if line.lstrip().startswith("use "):
                 for name in re.findall(r" as (" + NAME + r")", line):
-                    kinds.setdefault(name, set()).add("type" if name[0].isupper() else "function")
+                    kinds.setdefault(name, set()).add("type" if name[0].isupper() else "alias")
                 continue
             m = DEFINED.match(line)
             if not m or m.group(3) in ("where", "let", "in", "module"):
@@ -67,7 +67,7 @@ def defined(root):
         for line in read(path).split("\n"):
             if line.startswith("ghost use "):
                 for name in re.findall(r" as (" + NAME + r")", line):
-                    kinds.setdefault(name, set()).add("type" if name[0].isupper() else "function")
+                    kinds.setdefault(name, set()).add("type" if name[0].isupper() else "alias")
     return kinds
 
 
@@ -125,7 +125,7 @@ def renamed(root):
             continue
         if "type" in of:
             table[name] = camel(name)
-        elif of & {"function", "field"}:
+        elif of & {"function", "field", "alias"}:
             table[name] = name.replace("-", "_")
         else:
             table[name] = joined(name, known)

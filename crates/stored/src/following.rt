@@ -9,8 +9,8 @@ use grade::{Refusal, Slots};
 
 // The record that an index names, unless it was met before.
 fn fresh_record(bytes: &[u8], base: usize, count: u16, index: u16, met: &[bool]) -> Option<Record>
-    requires count_in_bounds { base + 8 * count ≤ length bytes.now }
-    requires count_in_bounds_2 { count ≤ length met.now }
+    requires records { base + 8 * count ≤ length bytes.now }
+    requires marks { count ≤ length met.now }
     ensures { result ≡ (if slice_index_or met.now (index - 1) false then None else record_at bytes.now base count index) }
 {
     let record = find_record(bytes, base, count, index)?;
@@ -28,8 +28,8 @@ fn follow_chain(
     first: u16,
     met: &mut [bool],
 ) -> Result<(), Refusal>
-    requires count_in_bounds { base + 8 * count ≤ length bytes.now }
-    requires count_in_bounds_2 { count ≤ length met.old }
+    requires records { base + 8 * count ≤ length bytes.now }
+    requires marks { count ≤ length met.old }
     ensures { told (λ _. met.new) result ≡ follow_marks (next_in bytes.now base) count 255 first met.old }
 {
     let mut index = first;
@@ -58,9 +58,9 @@ pub fn follow_chains(
     count: u16,
     met: &mut [bool],
 ) -> Result<(), Refusal>
-    requires count_in_bounds { base + 8 * count ≤ length bytes.now }
-    requires n_in_bounds { 4 + 2 * n ≤ length bytes.now }
-    requires count_in_bounds_2 { count ≤ length met.old }
+    requires records { base + 8 * count ≤ length bytes.now }
+    requires heads { 4 + 2 * n ≤ length bytes.now }
+    requires marks { count ≤ length met.old }
     ensures { told (λ _. met.new) result ≡ follow_all_marks (head_of bytes.now) (next_in bytes.now base) count n met.old }
 {
     for passed in 0..n {

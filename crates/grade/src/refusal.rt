@@ -1,7 +1,10 @@
-ghost use Rattle.std.specs.Prelude.{◌≡◌};
+ghost use Rattle.std.specs.Prelude.{◌≡◌, Some};
 ghost use Rattle.grade.specs.Told.{refusal};
+ghost use Rattle.grade.specs.Texts.{refusal_text};
 
-// Why a call refuses. `refusal` of the specification tells each one's number and places.
+use std::fmt;
+
+// Why a call refuses. `refusal` of the specification tells each one's number and places. A place of 0 is none, as users know it, and no Option.
 #[derive(Clone, Copy, PartialEq, Eq, Debug)]
 pub enum Refusal {
     NotLawful,
@@ -25,7 +28,7 @@ pub enum Refusal {
 }
 
 impl Refusal {
-    // The number by which users know the refusal.
+    // The number by which users know the refusal. No `From`, since a number does not tell the places.
     pub fn number(self) -> u8
         ensures { result ≡ (refusal self).0 }
     {
@@ -48,6 +51,28 @@ impl Refusal {
             Refusal::WrongGrade { .. } => 15,
             Refusal::WrongSize => 16,
             Refusal::WrongScriptLine { .. } => 17,
+        }
+    }
+}
+
+// Its number, and its places by what they are.
+impl fmt::Display for Refusal {
+    ghost output = { λ r. Some (refusal_text r) };
+
+    fn fmt<W: fmt::Write>(&self, f: &mut fmt::Formatter<W>) -> fmt::Result {
+        let number = self.number();
+        write!(f, "refused {number}")?;
+        match *self {
+            Refusal::SurveyOverflows { bridge, position }
+            | Refusal::WrongFar { bridge, position } => {
+                write!(f, ", bridge {bridge}, line {position}")
+            }
+            Refusal::SilentBridge { bridge, cause } => {
+                write!(f, ", bridge {bridge}, cause {cause}")
+            }
+            Refusal::BrokenChains { record } => write!(f, ", record {record}"),
+            Refusal::WrongGrade { record } if record > 0 => write!(f, ", record {record}"),
+            _ => Ok(()),
         }
     }
 }

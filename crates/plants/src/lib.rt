@@ -4,8 +4,6 @@
 ghost use Rattle.plants.specs.Plants.{DiscoveryHolds};
 
 // Every row of the table holds of the definitions that the calls are proved with.
-pub fn discovery_holds() -> u8
+pub fn discovery_holds()
     ensures { DiscoveryHolds }
-{
-    0
-}
+{}

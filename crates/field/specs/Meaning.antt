@@ -1,8 +1,7 @@
 -- What a field tells of each bridge number. Assumes nothing.
-use Rattle.std.specs.Prelude.{◌≡◌, ℕ, ◌-◌, ◌^◌, ◌<◌, ◌≤◌, cond, ◌⊎◌, List, [], ◌∷◌, length, Some, None, Option, ◌==◌}
+use Rattle.std.specs.Prelude.{◌≡◌, ℕ, ◌-◌, ◌^◌, ◌<◌, ◌≤◌, cond, ◌⊎◌, List, [], ◌∷◌, length, Some, None, Option, Ok, Err, Result, ◌==◌}
 use Rattle.theory.specs.Lists.{Each}
-use Rattle.field.specs.declared.Listing.{Listing}
-use Rattle.field.specs.declared.Listing.TheVariants.{Silent, Listed}
+use Rattle.field.specs.declared.Silence.{Silence}
 
 -- one line of a bridge's list: the number of its far bridge, and its grade
 pub record Entry (G : Type 0) : Type 0 where
@@ -24,10 +23,10 @@ pub record Lawful {G : Type 0} (tells : ℕ → Told G) : Type 0 where
   pub sound : (b : ℕ) → Sound (tells b)
   pub outside : (b : ℕ) → (b < 1) ⊎ (256 < b) → tells b ≡ silent 1
 
--- the answer to the first question: the cause, or the list's length
-abbrev pub listing : {G : Type 0} → Told G → Listing
-listing (silent cause) = Silent cause
-listing (listed es) = Listed (length es)
+-- the answer to the first question: the list's length, or the cause of the silence
+abbrev pub listing : {G : Type 0} → Told G → Result ℕ Silence
+listing (silent cause) = Err (record { cause = cause })
+listing (listed es) = Ok (length es)
 
 -- the list that a bridge tells; a silent one has no lines
 abbrev pub entries : {G : Type 0} → Told G → List (Entry G)

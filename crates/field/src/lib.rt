@@ -9,14 +9,14 @@ mod ring;
 use grade::Grade;
 pub use ring::RingPlan;
 
-// What a bridge number tells first: that it is silent, with the cause, or how long its list is.
+// Why a bridge number tells no list.
 #[derive(Clone, Copy, PartialEq, Eq, Debug)]
-pub enum Listing {
-    Silent(u8),
-    Listed(u8),
+pub struct Silence {
+    pub cause: u8,
 }
 
-// What discovery asks. A live bus keeps a state between questions, so they take `&mut self`.
+// What discovery asks. A live bus keeps a state between questions, so they take `&mut self`; that what it tells stays the same is a fact of
+// two moments, and so a clause of each question.
 pub trait Field {
     type Kind: Grade;
 
@@ -26,8 +26,8 @@ pub trait Field {
     // every number tells something sound, whatever state the field is in
     ghost lawful: { (f : Self) → Lawful (tells f) };
 
-    // The cause of a silence, or the length of a list.
-    fn ask_listing(&mut self, bridge: u16) -> Listing
+    // The length of a list, or the cause of a silence.
+    fn ask_listing(&mut self, bridge: u16) -> Result<u8, Silence>
         ensures answer { result ≡ listing (tells self.old bridge) }
         ensures same { tells self.new ≡ tells self.old };
 

@@ -1,5 +1,6 @@
 -- The steps along a chain of a stored survey. Assumes nothing.
-use Rattle.std.proofs.Common.{◌≡◌, ℕ, zero, suc, ◌+◌, ◌-◌, ◌<◌, true, false, ◌&&◌, eqb, leb, List, [], ◌∷◌, map, length, Some, None, sym, refl, ap, ◌∙◌, ⊎_elim, arith}
+use Rattle.std.proofs.Common.{◌≡◌, ℕ, zero, suc, ◌-◌, ◌<◌, true, false, ◌&&◌, eqb, leb, List, [], ◌∷◌, map, length, Some, None, sym, refl, ap, ◌∙◌, ⊎_elim, arith}
+use Rattle.std.proofs.lemmas.Option.{none-some, same_Some}
 use Rattle.std.proofs.lemmas.Bool.{cond-true, cond-false, eq-eqb, ne_eqb}
 use Rattle.stored.specs.declared.layout.Record.{Record}
 use Rattle.field.specs.Meaning.{nth}
@@ -7,20 +8,14 @@ use Rattle.stored.specs.Stored.{stored_at, next_in, chain}
 use Rattle.stored.specs.Marks.{record_at}
 use Rattle.grade.proofs.Replies.{by_cond}
 
-pub some_not_none : {X : Type 0} {x : X} → Some x ≡ None → ⊥
-some_not_none h = let z : ◌≡◌ {A = ℕ} 0 1 = cc in omega arith
-
-pub some_same : {X : Type 0} {x y : X} → Some x ≡ Some y → x ≡ y
-some_same h = cc
-
 -- an index that names a record, and one that names none
 pub names : (bytes : List ℕ) (base r index : ℕ) (rec : Record) → Some rec ≡ record_at bytes base r index → ((leb 1 index && leb index r) ≡ true) × (rec ≡ stored_at bytes base index)
 names bytes base r index rec h =
-    ⊎_elim (λ yes'. (yes'.0, sym (some_same yes'.1))) (λ none. absurd (some_not_none (sym none.1))) (by_cond (leb 1 index && leb index r) (sym h))
+    ⊎_elim (λ yes'. (yes'.0, sym (same_Some _ _ yes'.1))) (λ none. absurd (none-some _ none.1)) (by_cond (leb 1 index && leb index r) (sym h))
 
 pub names_none : (bytes : List ℕ) (base r index : ℕ) → None ≡ record_at bytes base r index → (leb 1 index && leb index r) ≡ false
 names_none bytes base r index h =
-    ⊎_elim (λ some. absurd (some_not_none some.1)) (λ none. none.0) (by_cond (leb 1 index && leb index r) (sym h))
+    ⊎_elim (λ some. absurd (none-some _ (sym some.1))) (λ none. none.0) (by_cond (leb 1 index && leb index r) (sym h))
 
 pub chain_more : (next : ℕ → ℕ) (r left index : ℕ) → 0 < left → (leb 1 index && leb index r) ≡ true → chain next r left index ≡ index ∷ chain next r (left - 1) (next index)
 unfolding chain
@@ -39,35 +34,28 @@ chain_over next r left index z = ap (λ k. chain next r k index) z
 
 module _ (bytes : List ℕ) (base r : ℕ) where
   -- one record further along a chain, in its length
-  pub length_more : (passed index : ℕ) (rec : Record) → passed < 255 → Some rec ≡ record_at bytes base r index
-      → passed + 1 + length (chain (next_in bytes base) r (255 - (passed + 1)) rec.next) ≡ passed + length (chain (next_in bytes base) r (255 - passed) index)
-  length_more passed index rec l is =
+  pub length_more : (left index : ℕ) (rec : Record) → 0 < left → Some rec ≡ record_at bytes base r index
+      → length (chain (next_in bytes base) r left index) ≡ suc (length (chain (next_in bytes base) r (left - 1) rec.next))
+  length_more left index rec l is =
       let named = names bytes base r index rec is in
-      let more = ap length (chain_more (next_in bytes base) r (255 - passed) index (omega arith) named.0) in
-      let less : 255 - passed - 1 ≡ 255 - (passed + 1) = omega arith in
-      let same : length (chain (next_in bytes base) r (255 - (passed + 1)) rec.next) ≡ length (chain (next_in bytes base) r (255 - passed - 1) (next_in bytes base index)) = ap (λ x. length (chain (next_in bytes base) r (255 - (passed + 1)) x.next)) named.1 ∙ ap (λ k. length (chain (next_in bytes base) r k (next_in bytes base index))) (sym less) in
-      omega arith
+      ap length (chain_more (next_in bytes base) r left index l named.0) ∙ ap (λ x. suc (length (chain (next_in bytes base) r (left - 1) x.next))) (sym named.1)
 
   -- and in its k-th record
-  pub nth_here : (passed index k : ℕ) (rec : Record) → passed < 255 → Some rec ≡ record_at bytes base r index → passed + 1 ≡ k
-      → nth (map (stored_at bytes base) (chain (next_in bytes base) r (255 - passed) index)) (k - passed) ≡ Some rec
-  nth_here passed index k rec l is at =
+  pub nth_here : (left index k : ℕ) (rec : Record) → 0 < left → Some rec ≡ record_at bytes base r index → k ≡ 1
+      → nth (map (stored_at bytes base) (chain (next_in bytes base) r left index)) k ≡ Some rec
+  nth_here left index k rec l is at =
       let named = names bytes base r index rec is in
-      ap (λ xs. nth (map (stored_at bytes base) xs) (k - passed)) (chain_more (next_in bytes base) r (255 - passed) index (omega arith) named.0)
-      ∙ cond-true (eqb (k - passed) 1) _ _ (eq-eqb (k - passed) 1 (omega arith))
+      ap (λ xs. nth (map (stored_at bytes base) xs) k) (chain_more (next_in bytes base) r left index l named.0)
+      ∙ cond-true (eqb k 1) _ _ (eq-eqb k 1 at)
       ∙ ap (λ x. Some x) (sym named.1)
 
-  pub nth-more : (passed index k : ℕ) (rec : Record) → passed < 255 → Some rec ≡ record_at bytes base r index → (passed + 1 ≡ k → ⊥)
-      → nth (map (stored_at bytes base) (chain (next_in bytes base) r (255 - passed) index)) (k - passed) ≡ nth (map (stored_at bytes base) (chain (next_in bytes base) r (255 - (passed + 1)) rec.next)) (k - (passed + 1))
-  nth-more passed index k rec l is off =
+  pub nth-more : (left index k : ℕ) (rec : Record) → 0 < left → Some rec ≡ record_at bytes base r index → (k ≡ 1 → ⊥)
+      → nth (map (stored_at bytes base) (chain (next_in bytes base) r left index)) k ≡ nth (map (stored_at bytes base) (chain (next_in bytes base) r (left - 1) rec.next)) (k - 1)
+  nth-more left index k rec l is off =
       let named = names bytes base r index rec is in
-      let less : 255 - passed - 1 ≡ 255 - (passed + 1) = omega arith in
-      let down : k - passed - 1 ≡ k - (passed + 1) = omega arith in
-      ap (λ xs. nth (map (stored_at bytes base) xs) (k - passed)) (chain_more (next_in bytes base) r (255 - passed) index (omega arith) named.0)
-      ∙ cond-false (eqb (k - passed) 1) _ _ (ne_eqb (k - passed) 1 (omega arith))
-      ∙ ap (λ j. nth (map (stored_at bytes base) (chain (next_in bytes base) r j (next_in bytes base index))) (k - passed - 1)) less
-      ∙ ap (λ j. nth (map (stored_at bytes base) (chain (next_in bytes base) r (255 - (passed + 1)) (next_in bytes base index))) j) down
-      ∙ ap (λ x. nth (map (stored_at bytes base) (chain (next_in bytes base) r (255 - (passed + 1)) x.next)) (k - (passed + 1))) (sym named.1)
+      ap (λ xs. nth (map (stored_at bytes base) xs) k) (chain_more (next_in bytes base) r left index l named.0)
+      ∙ cond-false (eqb k 1) _ _ (ne_eqb k 1 off)
+      ∙ ap (λ x. nth (map (stored_at bytes base) (chain (next_in bytes base) r (left - 1) x.next)) (k - 1)) (sym named.1)
 
   pub nth_none : (left index k : ℕ) → None ≡ record_at bytes base r index → nth (map (stored_at bytes base) (chain (next_in bytes base) r left index)) k ≡ None
   nth_none left index k is = ap (λ xs. nth (map (stored_at bytes base) xs) k) (chain_end (next_in bytes base) r left index (names_none bytes base r index is))

@@ -1,12 +1,13 @@
 -- The steps of following chains by marks. Assumes nothing.
 use Rattle.std.proofs.Common.{◌≡◌, ℕ, zero, suc, ◌-◌, ◌<◌, Bool, true, false, cond, not, ◌&&◌, eqb, leb, List, get_or, set, Some, None, sym, ap, ◌∙◌, ⊎_elim, arith}
+use Rattle.std.proofs.lemmas.Option.{none-some}
 use Rattle.std.proofs.lemmas.Bool.{cond-true, cond-false, eq-eqb, ne_eqb, and_parts, and_left, and_right, and_from, and_cases, le-leb, both_ways, not_from_true, not_from_false}
 use Rattle.stored.specs.declared.layout.Record.{Record}
 use Rattle.grade.specs.Told.{answers, refuses}
 use Rattle.stored.specs.Stored.{next_in}
 use Rattle.stored.specs.Marks.{record_at, follow_marks}
 use Rattle.grade.proofs.Replies.{by_cond}
-use Rattle.stored.proofs.Chains.{names, names_none, some_not_none}
+use Rattle.stored.proofs.Chains.{names, names_none}
 
 -- zero ends a chain
 pub follow-zero : (next : ℕ → ℕ) (r left index : ℕ) (marks : List Bool) → index ≡ 0 → follow_marks next r left index marks ≡ answers marks
@@ -43,7 +44,7 @@ module _ (bytes : List ℕ) (base r left index : ℕ) (marks : List Bool) (ne : 
   follow-more rec l is =
       let turns : left ≡ suc (left - 1) = omega arith in
       ⊎_elim
-      (λ met. absurd (some_not_none (sym met.1)))
+      (λ met. absurd (none-some _ met.1))
       (λ fresh.
       let named = names bytes base r index rec (sym fresh.1) in
       let good = and_from (leb index r) (not (get_or marks (index - 1) false)) (and_parts (leb 1 index) (leb index r) named.0).1 (not_from_false (get_or marks (index - 1) false) fresh.0) in

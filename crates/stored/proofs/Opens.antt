@@ -1,15 +1,17 @@
 -- Opening by marks answers what opening by lists of records does. Assumes nothing.
-use Rattle.std.proofs.Common.{◌≡◌, ℕ, zero, suc, ◌+◌, ◌-◌, ◌*◌, ◌≤◌, Bool, true, false, cond, not, ◌&&◌, eqb, leb, ◌≢◌, List, [], ◌∷◌, ◌++◌, length, get_or, set, replicate, Some, None, sym, refl, ap, ◌∙◌, subst, ⊎_elim, arith, length-set}
+use Rattle.std.proofs.Common.{◌≡◌, ℕ, zero, suc, ◌-◌, ◌≤◌, Bool, true, false, cond, not, ◌&&◌, eqb, leb, ◌≢◌, List, [], ◌∷◌, ◌++◌, length, get_or, set, replicate, Some, None, Option, sym, refl, ap, ◌∙◌, subst, ⊎_elim, arith, length-set}
 use Rattle.std.proofs.lemmas.List.{get_or-set_same, get_or-set_other, get_or-replicate, length-replicate}
 use Rattle.std.proofs.lemmas.Bool.{cases_Bool, cases_eq, eqb-false, and_parts, leb-true, cond-true}
 use Rattle.grade.specs.declared.slots.Slots.{Slots}
 use Rattle.field.specs.Meaning.{Told}
-use Rattle.grade.specs.Told.{Reply, answers, refuses, and_then}
+use Rattle.grade.specs.Told.{Reply, answers, refuses, refused, and_then}
 use Rattle.theory.specs.Lists.{among}
 use Rattle.theory.proofs.Lists.{in_last, in_among}
 use Rattle.field.proofs.Members.{among_other}
 use Rattle.stored.specs.Stored.{bridges, records, base_of, head_of, next_in, stored_at, stored_tells, well_shaped, follow, follow_all, lowest, unless, wrong_slots, opened}
 use Rattle.stored.specs.Marks.{follow_marks, follow_all_marks}
+use Rattle.grade.proofs.Replies.{by_cond, refused-not, answers_same}
+use Rattle.stored.proofs.Shapes.{few_records}
 use Rattle.stored.proofs.Lowest.{lowest_same}
 
 -- the marks are those of the records met
@@ -76,56 +78,58 @@ agree_yes r (answers m) (refuses y) marks h e = absurd h
 agree_yes r (refuses w) (answers met) marks h e = absurd h
 agree_yes r (refuses w) (refuses y) marks h e = let z : ◌≡◌ {A = ℕ} 0 1 = cc in absurd (omega arith)
 
-module _ (bytes : List ℕ) (n count : ℕ) (start : List Bool) (en : n ≡ bridges bytes) (ec : count ≡ records bytes) (shaped : well_shaped bytes ≡ true) (none-met : Met count start []) where
-  abbrev base : ℕ
-  base = 4 + 2 * n
-
-  abbrev rest : ℕ → ℕ → List ℕ → Reply (ℕ → Told Slots)
-  rest m r met =
-      unless 14 (lowest (λ i. not (among met i)) r)
-      (unless 15 (lowest (λ i. wrong_slots (stored_at bytes (4 + 2 * m) i).slots) r)
-      (answers (stored_tells bytes)))
-
-  opens : opened bytes ≡ and_then (follow_all (head_of bytes) (next_in bytes base) count n) (rest n count)
-  opens =
-      cond-true (well_shaped bytes) _ _ shaped
-      ∙ ap (λ m. and_then (follow_all (head_of bytes) (next_in bytes (4 + 2 * m)) (records bytes) m) (rest m (records bytes))) (sym en)
-      ∙ ap (λ r. and_then (follow_all (head_of bytes) (next_in bytes base) r n) (rest n r)) (sym ec)
-
-  agrees : Agree count (follow_all_marks (head_of bytes) (next_in bytes base) count n start) (follow_all (head_of bytes) (next_in bytes base) count n)
-  agrees = all_agree (head_of bytes) (next_in bytes base) count n start none-met
-
-  pub opened_broken : (x : ℕ × ℕ × ℕ) → refuses x ≡ follow_all_marks (head_of bytes) (next_in bytes base) count n start → refuses x ≡ opened bytes
-  opened_broken x is = sym (opens ∙ ap (λ a. and_then a (rest n count)) (agree_no count _ _ x agrees (sym is)))
-
-  module _ (marks : List Bool) (all-met : answers marks ≡ follow_all_marks (head_of bytes) (next_in bytes base) count n start) where
-    met_list : (met : List ℕ) × (follow_all (head_of bytes) (next_in bytes base) count n ≡ answers met) × Met count marks met
-    met_list = agree_yes count _ _ marks agrees (sym all-met)
-
-    left : opened bytes ≡ unless 14 (lowest (λ i. not (get_or marks (i - 1) false)) count) (unless 15 (lowest (λ i. wrong_slots (stored_at bytes base i).slots) count) (answers (stored_tells bytes)))
-    left =
-        opens
-        ∙ ap (λ a. and_then a (rest n count)) met_list.1
-        ∙ ap (λ o. unless 14 o (unless 15 (lowest (λ i. wrong_slots (stored_at bytes base i).slots) count) (answers (stored_tells bytes)))) (lowest_same (λ i. not (among met_list.0 i)) (λ i. not (get_or marks (i - 1) false)) count (λ i l h. ap not (sym (met_list.2.same i l h))))
-
-    pub opened_unmet : (place : ℕ) → Some place ≡ lowest (λ i. not (get_or marks (i - 1) false)) count → refuses (14, place, 0) ≡ opened bytes
-    opened_unmet place is = sym (left ∙ ap (λ o. unless 14 o (unless 15 (lowest (λ i. wrong_slots (stored_at bytes base i).slots) count) (answers (stored_tells bytes)))) (sym is))
-
-    module _ (whole : None ≡ lowest (λ i. not (get_or marks (i - 1) false)) count) where
-      checked : opened bytes ≡ unless 15 (lowest (λ i. wrong_slots (stored_at bytes base i).slots) count) (answers (stored_tells bytes))
-      checked = left ∙ ap (λ o. unless 14 o (unless 15 (lowest (λ i. wrong_slots (stored_at bytes base i).slots) count) (answers (stored_tells bytes)))) (sym whole)
-
-      pub opened-slots : (place : ℕ) → Some place ≡ lowest (λ i. wrong_slots (stored_at bytes base i).slots) count → refuses (15, place, 0) ≡ opened bytes
-      opened-slots place is = sym (checked ∙ ap (λ o. unless 15 o (answers (stored_tells bytes))) (sym is))
-
-      pub opened_good : None ≡ lowest (λ i. wrong_slots (stored_at bytes base i).slots) count → answers (stored_tells bytes) ≡ opened bytes
-      opened_good is = sym (checked ∙ ap (λ o. unless 15 o (answers (stored_tells bytes))) (sym is))
-
 -- as many cleared marks as there may be records
-pub met_none : (r : ℕ) → r ≤ 1024 → Met r (replicate 1024 false) []
+met_none : (r : ℕ) → r ≤ 1024 → Met r (replicate 1024 false) []
 met_none r h = record { long = rw length-replicate h; same = λ i l u. get_or-replicate 1024 (i - 1) false false (omega arith) }
 
-pub few_records : (bytes : List ℕ) → well_shaped bytes ≡ true → records bytes ≤ 1024
-few_records bytes e =
-    let shape = and_parts (leb 1 (bridges bytes) && leb (bridges bytes) 256) (leb (records bytes) 1024 && eqb (length bytes) (base_of bytes + 8 * records bytes)) e in
-    leb-true (records bytes) 1024 (and_parts (leb (records bytes) 1024) (eqb (length bytes) (base_of bytes + 8 * records bytes)) shape.1).0
+-- bytes that were read mean what the bytes that were to be read do
+pub opened_same : (bytes got : List ℕ) → answers got ≡ cond (well_shaped bytes) (answers bytes) (refused 13) → opened got ≡ opened bytes
+opened_same bytes got h = ap opened (⊎_elim (λ good. answers_same (sym good.1)) (λ bad. absurd (refused-not bad.1)) (by_cond (well_shaped bytes) (sym h)))
+
+module _ (bytes : List ℕ) (shaped : well_shaped bytes ≡ true) where
+  abbrev next : ℕ → ℕ
+  next = next_in bytes (base_of bytes)
+
+  abbrev followed : Reply (List Bool)
+  followed = follow_all_marks (head_of bytes) next (records bytes) (bridges bytes) (replicate 1024 false)
+
+  abbrev right_slots : Reply (ℕ → Told Slots)
+  right_slots = unless 15 (lowest (λ i. wrong_slots (stored_at bytes (base_of bytes) i).slots) (records bytes)) (answers (stored_tells bytes))
+
+  abbrev rest : List ℕ → Reply (ℕ → Told Slots)
+  rest met = unless 14 (lowest (λ i. not (among met i)) (records bytes)) right_slots
+
+  opens : opened bytes ≡ and_then (follow_all (head_of bytes) next (records bytes) (bridges bytes)) rest
+  opens = cond-true (well_shaped bytes) _ _ shaped
+
+  agrees : Agree (records bytes) followed (follow_all (head_of bytes) next (records bytes) (bridges bytes))
+  agrees = all_agree (head_of bytes) next (records bytes) (bridges bytes) (replicate 1024 false) (met_none (records bytes) (few_records bytes shaped))
+
+  pub opened_broken : (x : ℕ × ℕ × ℕ) → refuses x ≡ followed → refuses x ≡ opened bytes
+  opened_broken x is = sym (opens ∙ ap (λ a. and_then a rest) (agree_no (records bytes) _ _ x agrees (sym is)))
+
+  module _ (marks : List Bool) (all-met : answers marks ≡ followed) where
+    abbrev unmet : Option ℕ
+    unmet = lowest (λ i. not (get_or marks (i - 1) false)) (records bytes)
+
+    met_list : (met : List ℕ) × (follow_all (head_of bytes) next (records bytes) (bridges bytes) ≡ answers met) × Met (records bytes) marks met
+    met_list = agree_yes (records bytes) _ _ marks agrees (sym all-met)
+
+    left : opened bytes ≡ unless 14 unmet right_slots
+    left =
+        opens
+        ∙ ap (λ a. and_then a rest) met_list.1
+        ∙ ap (λ o. unless 14 o right_slots) (lowest_same (λ i. not (among met_list.0 i)) (λ i. not (get_or marks (i - 1) false)) (records bytes) (λ i l h. ap not (sym (met_list.2.same i l h))))
+
+    pub opened_unmet : (place : ℕ) → Some place ≡ unmet → refuses (14, place, 0) ≡ opened bytes
+    opened_unmet place is = sym (left ∙ ap (λ o. unless 14 o right_slots) (sym is))
+
+    module _ (whole : None ≡ unmet) where
+      checked : opened bytes ≡ right_slots
+      checked = left ∙ ap (λ o. unless 14 o right_slots) (sym whole)
+
+      pub opened-slots : (place : ℕ) → Some place ≡ lowest (λ i. wrong_slots (stored_at bytes (base_of bytes) i).slots) (records bytes) → refuses (15, place, 0) ≡ opened bytes
+      opened-slots place is = sym (checked ∙ ap (λ o. unless 15 o (answers (stored_tells bytes))) (sym is))
+
+      pub opened_good : None ≡ lowest (λ i. wrong_slots (stored_at bytes (base_of bytes) i).slots) (records bytes) → answers (stored_tells bytes) ≡ opened bytes
+      opened_good is = sym (checked ∙ ap (λ o. unless 15 o (answers (stored_tells bytes))) (sym is))

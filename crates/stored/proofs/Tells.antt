@@ -1,16 +1,11 @@
 -- What a stored survey tells, by its records. Assumes nothing.
-use Rattle.std.proofs.Common.{◌≡◌, ℕ, ◌-◌, Bool, true, false, cond, eqb, List, [], ◌∷◌, map, length, Some, None, Option, sym, refl, ap, ◌∙◌, ⊎_elim}
-use Rattle.std.proofs.lemmas.List.{length-map}
-use Rattle.field.specs.declared.Listing.TheVariants.{Listed}
+use Rattle.std.proofs.Common.{◌≡◌, ℕ, ◌-◌, Bool, true, false, cond, eqb, List, [], ◌∷◌, map, Some, None, Option, refl, ap, ◌∙◌}
 use Rattle.grade.specs.declared.slots.Slots.{Slots}
 use Rattle.grade.specs.Kinds.{slots_grade}
 use Rattle.stored.specs.declared.layout.Record.{Record}
-use Rattle.stored.specs.declared.lists.Chain.{Chain}
-use Rattle.field.specs.Meaning.{silent, listed, listing, nth, far_of, far_at, grade_of, grade_at}
-use Rattle.stored.specs.Stored.{next_in, chain, entry_of, has_list, list_of, stored_tells}
-use Rattle.stored.specs.Marks.{chain_of, line_of}
-use Rattle.grade.proofs.Replies.{by_cond}
-use Rattle.stored.proofs.Chains.{some_not_none, some_same}
+use Rattle.field.specs.Meaning.{silent, listed, nth, far_of, far_at, grade_of, grade_at}
+use Rattle.stored.specs.Stored.{entry_of, has_list, list_of, stored_tells}
+use Rattle.stored.specs.Marks.{line_of}
 
 -- an option, read by f
 abbrev pub read : {X Y : Type 0} → (X → Y) → Option X → Option Y
@@ -49,13 +44,3 @@ grade_told bytes b k = at (has_list bytes b)
     at : (t : Bool) → grade_at (cond t (listed (map entry_of (list_of bytes b))) (silent 1)) k ≡ read slots_of (cond t (nth (list_of bytes b) k) None)
     at true = ap grade_of (nth-map entry_of (list_of bytes b) k) ∙ grade_of-read (nth (list_of bytes b) k)
     at false = refl
-
-pub listing-told : (bytes : List ℕ) (b : ℕ) (c : Chain) → Some c ≡ chain_of bytes b → listing (stored_tells bytes b) ≡ Listed (length (chain (next_in bytes c.base) c.count 255 c.first))
-listing-told bytes b c is =
-    ⊎_elim
-    (λ has.
-    ap (λ t. listing (cond t (listed (map entry_of (list_of bytes b))) (silent 1))) has.0
-    ∙ ap (λ m. Listed m) (length-map (list_of bytes b) entry_of ∙ length-map _ _)
-    ∙ ap (λ x. Listed (length (chain (next_in bytes x.base) x.count 255 x.first))) (some_same has.1))
-    (λ none. absurd (some_not_none (sym none.1)))
-    (by_cond (has_list bytes b) (sym is))

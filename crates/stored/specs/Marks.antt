@@ -3,16 +3,15 @@ use Rattle.std.specs.Prelude.{ℕ, zero, suc, ◌-◌, Bool, true, false, cond, 
 use Rattle.grade.specs.Told.{Reply, answers, refuses, and_then}
 use Rattle.field.specs.Meaning.{nth}
 use Rattle.stored.specs.declared.layout.Record.{Record}
-use Rattle.stored.specs.declared.lists.Chain.{Chain}
-use Rattle.stored.specs.Stored.{records, head_of, base_of, stored_at, has_list, list_of}
+use Rattle.stored.specs.Stored.{head_of, stored_at, has_list, list_of}
 
 -- the record that an index names, among the r behind a base
 abbrev pub record_at : List ℕ → (base r index : ℕ) → Option Record
 record_at bytes base r index = cond (nat_le 1 index && nat_le index r) (Some (stored_at bytes base index)) None
 
--- where a bridge's chain is to be read
-abbrev pub chain_of : List ℕ → ℕ → Option Chain
-chain_of bytes b = cond (has_list bytes b) (Some (record { base = base_of bytes; count = records bytes; first = head_of bytes b })) None
+-- the head of a bridge's chain, if the bridge has a list
+abbrev pub first_of : List ℕ → ℕ → Option ℕ
+first_of bytes b = cond (has_list bytes b) (Some (head_of bytes b)) None
 
 -- the k-th record of a bridge's chain, counted from 1
 abbrev pub line_of : List ℕ → (b k : ℕ) → Option Record

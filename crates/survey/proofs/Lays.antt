@@ -50,10 +50,6 @@ module _ {G : Type 0} where
   can-append p [] ys a b = b
   can-append p (x ∷ xs) ys a b = (a.0, can-append (plain_lay p x) xs ys a.1 b)
 
-  plain_append : (p : Plain G) (xs ys : List (FoundLine G)) → plain_lay_all p (xs ++ ys) ≡ plain_lay_all (plain_lay_all p xs) ys
-  plain_append p [] ys = refl
-  plain_append p (x ∷ xs) ys = plain_append (plain_lay p x) xs ys
-
   -- lists that can be laid one after another are lines that can
   pub can-recorded : (tells : ℕ → Told G) (p : Plain G) (order : List ℕ) → CanLayLists tells p order → CanLayAll p (recorded tells order)
   can-recorded tells p [] c = tt

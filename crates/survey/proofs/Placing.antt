@@ -1,7 +1,6 @@
 -- The steps by which a survey lays what it found. Assumes nothing.
-use Rattle.std.proofs.Common.{◌≡◌, ℕ, zero, suc, ◌+◌, ◌<◌, ◌≤◌, true, ◌&&◌, eqb, leb, List, [], ◌∷◌, length, get_or, take, drop, Some, sym, refl, ap, ◌∙◌, subst, add-one, arith, drop-cons}
-use mathlib.Core.Option.{Option}
-use Rattle.std.proofs.lemmas.List.{length-map, get_or-take, length-take-le}
+use Rattle.std.proofs.Common.{◌≡◌, ℕ, zero, suc, ◌+◌, ◌-◌, ◌≤◌, true, ◌&&◌, eqb, leb, List, [], ◌∷◌, length, drop, Some, Ok, sym, refl, ap, ◌∙◌, subst, arith}
+use Rattle.std.proofs.lemmas.List.{length-map}
 use Rattle.std.proofs.lemmas.Bool.{and_parts, eqb-true, leb-true, le-leb, cond-true}
 use Rattle.grade.specs.Told.{answers}
 use Rattle.book.specs.Memory.{Memory}
@@ -10,41 +9,33 @@ use Rattle.book.specs.Chains.{slots_on}
 use Rattle.book.specs.Lawful.{chain_of, fits_tables, slots_in_order, fars_in_order, lawful}
 use Rattle.lines.specs.Calls.{last_of, placed_behind, with_line}
 use Rattle.plain.specs.Plain.{Plain, Agrees, count_from, new_book}
-use Rattle.theory.specs.Arcs.{numbers}
 use Rattle.plain.proofs.Agreement.{agrees_lawful}
 use Rattle.book.proofs.Sizes.{sound}
 use Rattle.plain.proofs.Opened.{opened}
 use Rattle.plain.proofs.Lays.{free_is, last_is}
-use Rattle.field.specs.declared.Listing.TheVariants.{Listed}
 use Rattle.field.specs.Meaning.{Told, Entry, listing, entries, far_of, far_at, grade_of, grade_at}
 use Rattle.survey.specs.Walk.{Progress, walked, FoundLine, lines_from, RightList, recorded}
 use Rattle.survey.specs.Recording.{lay_all}
 use Rattle.survey.specs.Plain.{plain_lay, plain_lay_all}
-use Rattle.survey.specs.Laying.{CanLay, Bare, CanLayLists, ReadyList, ReadyLists, ReadyRest}
-use Rattle.survey.proofs.Reading.{length_listed, line_of-entries, line_after}
+use Rattle.survey.specs.Laying.{CanLay, CanLayLists, ReadyLists, ReadyRest}
+use Rattle.survey.proofs.Reading.{length_listed, line_of-entries, line_at-place}
 use Rattle.survey.proofs.Walks.{walks_all}
 use Rattle.survey.proofs.Lays.{plain_lay_is, one_agrees, all_agree, lay_append, can_lists}
 
--- the line after i others, by the answers to both questions
-pub next-told : {G : Type 0} (t : Told G) (m i far : ℕ) (grade : G) → listing t ≡ Listed m → i < m → Some far ≡ far_at t (i + 1) → Some grade ≡ grade_at t (i + 1)
-    → drop i (entries t) ≡ record { far = far; grade = grade } ∷ drop (i + 1) (entries t)
-next-told {G} t m i far grade h l is-far is-grade =
+-- the k-th line, by the answers to both questions
+pub next-told : {G : Type 0} (t : Told G) (m k far : ℕ) (grade : G) → listing t ≡ Ok m → 1 ≤ k → k ≤ m → Some far ≡ far_at t k → Some grade ≡ grade_at t k
+    → drop (k - 1) (entries t) ≡ record { far = far; grade = grade } ∷ drop (k + 1 - 1) (entries t)
+next-told {G} t m k far grade h low high is-far is-grade =
     let long = length_listed t m h in
-    let e = line_after (entries t) i (omega arith) in
-    let far_is : far_at t (i + 1) ≡ Some e.0.far = ap far_of (line_of-entries t (i + 1) ∙ e.1) in
-    let grade_is : grade_at t (i + 1) ≡ Some e.0.grade = ap grade_of (line_of-entries t (i + 1) ∙ e.1) in
+    let e = line_at-place (entries t) k low (omega arith) in
+    let far_is : far_at t k ≡ Some e.0.far = ap far_of (line_of-entries t k ∙ e.1) in
+    let grade_is : grade_at t k ≡ Some e.0.grade = ap grade_of (line_of-entries t k ∙ e.1) in
     let same_far : e.0.far ≡ far = cc in
     let same_grade : e.0.grade ≡ grade = cc in
-    let rest : List (Entry G) = drop (i + 1) (entries t) in
     let entry : ℕ → G → Entry G = λ f g. record { far = f; grade = g } in
-    e.2 ∙ ap (λ (f : ℕ). entry f e.0.grade ∷ rest) same_far ∙ ap (λ (g : G). entry far g ∷ rest) same_grade
-
--- a bridge with no line has no last slot
-pub bare_last : {G : Type 0} (m : Memory G) (p : Plain G) (b : ℕ) → Agrees m p → Bare p b → last_of 0 (slots_on (chain_of m b)) ≡ 0
-bare_last m p b a bare = ap (λ (o : Option (List ℕ)). last_of 0 (slots_on o)) (a.chains b bare.0 bare.1) ∙ ap (λ es. last_of 0 (numbers es)) bare.2
-
-pub ready_start : {G : Type 0} (m : Memory G) (near : ℕ) (es : List (Entry G)) → ReadyList m near es → ReadyRest m near 0 es
-ready_start m near es (p, a, bare, can) = (p, a, omega arith, bare_last m p near a bare, can)
+    let at : k ≡ k + 1 - 1 = omega arith in
+    e.2 ∙ ap (λ (f : ℕ). entry f e.0.grade ∷ drop k (entries t)) same_far ∙ ap (λ (g : G). entry far g ∷ drop k (entries t)) same_grade
+    ∙ ap (λ (j : ℕ). entry far grade ∷ drop j (entries t)) at
 
 module _ {G : Type 0} (m : Memory G) (near last far : ℕ) (grade : G) (rest : List (Entry G)) (ready : ReadyRest m near last (record { far = far; grade = grade } ∷ rest)) where
   abbrev l : FoundLine G
@@ -82,18 +73,7 @@ module _ {G : Type 0} (m : Memory G) (near last far : ℕ) (grade : G) (rest : L
       last_is m p a near far grade can.slot can.rest can.free can.ends can.no_line ∙ sym (is ∙ free_slot.0) in
       (subst (λ (x : Memory G). ReadyRest x near slot rest) (sym made) (plain_lay p l, agrees, long, end, ready.4.1), ap (λ (x : Memory G). lay_all x (lines_from near rest)) made)
 
--- the bridge after i others, among the first of the order
-pub next_bridge : (order : List ℕ) (count i : ℕ) → i < count → count ≤ length order → drop i (take count order) ≡ get_or order i 0 ∷ drop (i + 1) (take count order)
-next_bridge order count i l h =
-    let long = length-take-le count order h in
-    drop-cons (take count order) i 0 (omega arith)
-    ∙ ap (λ (b : ℕ). b ∷ drop (suc i) (take count order)) (get_or-take count order i 0 l)
-    ∙ ap (λ (k : ℕ). get_or order i 0 ∷ drop k (take count order)) (sym (add-one i))
-
 module _ {G : Type 0} (tells : ℕ → Told G) (m : Memory G) (b : ℕ) (bs : List ℕ) (ready : ReadyLists tells m (b ∷ bs)) where
-  pub ready_next : ReadyList m b (entries (tells b))
-  ready_next = (ready.0, ready.1, ready.2.0, ready.2.1)
-
   -- the book after the list of one bridge
   pub list_laid : (m' : Memory G) → m' ≡ lay_all m (lines_from b (entries (tells b))) → ReadyLists tells m' bs × (lay_all m' (recorded tells bs) ≡ lay_all m (recorded tells (b ∷ bs)))
   list_laid m' after =

@@ -1,26 +1,20 @@
 -- The steps of a walk from bridge to bridge. Assumes nothing.
-use Rattle.std.proofs.Common.{◌≡◌, ℕ, zero, suc, ◌+◌, ◌-◌, ◌<◌, ◌≤◌, ltb, List, length, get_or, take, sym, refl, ap, ◌∙◌, arith}
-use Rattle.std.proofs.lemmas.List.{length-take-le, get_or-take}
+use Rattle.std.proofs.Common.{◌≡◌, ℕ, zero, suc, ◌+◌, ◌-◌, ◌<◌, ◌≤◌, ltb, List, ◌++◌, length, get_or, take, sym, refl, ap, ◌∙◌, arith}
+use Rattle.std.proofs.lemmas.List.{length-take-le, take-append-le, get_or-take}
 use Rattle.std.proofs.lemmas.Bool.{lt-ltb, le-ltb, cond-true, cond-false}
 use Rattle.field.specs.Meaning.{Told}
 use Rattle.grade.specs.Told.{Reply, answers, and_then}
 use Rattle.survey.specs.Walk.{Progress, progress, read_bridge, walk_on}
-use Rattle.survey.specs.Working.{FoundIn}
-
--- nothing is found in cleared memory
-pub found_none : {n : ℕ} {order marks : List ℕ} → n ≤ length order → n ≤ length marks → ((k : ℕ) → k < n → get_or marks k 0 ≡ 0) → FoundIn n order marks 0
-found_none {n} lo lm clear = record {
-  marked = λ b l h. ap (ltb 0) (clear (b - 1) (omega arith));
-  once = tt;
-  within = λ b i. absurd i;
-  few = omega arith;
-  long_order = lo;
-  long_marks = lm;
-}
+use Rattle.survey.specs.Working.{FoundIn, stands_for}
+use Rattle.survey.specs.declared.walk.Tally.{Tally}
 
 -- the bridges found are as many as the count says, and stand where the memory has them
 pub count_found : {n count : ℕ} {order marks : List ℕ} → FoundIn n order marks count → length (take count order) ≡ count
 count_found {n} {count} {order} F = length-take-le count order (omega (arith, F.few, F.long_order))
+
+-- the order found stands at the front of the whole working memory
+pub stands_in : {n : ℕ} {order marks : List ℕ} (more : List ℕ) (t : Tally) → FoundIn n order marks t.found → stands_for (order ++ more) t ≡ stands_for order t
+stands_in {n} {order} more t F = ap (λ found. progress found t.lines) (take-append-le t.found order more (omega (arith, F.few, F.long_order)))
 
 module _ {G : Type 0} (tells : ℕ → Told G) (n L : ℕ) where
   pub walk_end : (turns taken : ℕ) (p : Progress) → length p.found ≤ taken → walk_on tells n L turns taken p ≡ answers p

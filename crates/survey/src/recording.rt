@@ -8,13 +8,14 @@ ghost use Rattle.survey.specs.Laying.{ReadyList, ReadyLists};
 ghost use Rattle.survey.specs.Recording.{lay_all, recorded_over, surveying};
 ghost use Rattle.survey.specs.Walk.{lines_from, recorded, walked, StopsRight, WalksAll};
 
-use crate::walk::walk;
+use crate::walk::{Limits, walk};
 use book::{Head, Line, admit_book, start_afresh};
-use field::{Field, Listing};
+use field::Field;
 use grade::Refusal;
 use lines::place_line;
 
-// Lays the lines of one bridge's list, in their order.
+// Lays the lines of one bridge's list, in their order. Here and below, that the field tells the same afterwards is a fact of two moments, and
+// so a clause.
 fn lay_list<F: Field>(
     head: &mut Head,
     first: &mut [u16],
@@ -26,63 +27,36 @@ fn lay_list<F: Field>(
     ensures laid { memory head.new first.new lines.new ≡ lay_all (memory head.old first.old lines.old) (lines_from near (entries (F.tells field.old near))) }
     ensures same { F.tells field.new ≡ F.tells field.old }
 {
-    let Listing::Listed(length) = field.ask_listing(near) else {
+    let Ok(length) = field.ask_listing(near) else {
         return;
     };
     let mut last = 0;
-    for passed in 0..length as u16 {
-        let k = passed + 1;
+    for k in 1..=u16::from(length) {
         let Some(far) = field.ask_far(near, k) else {
-            unreachable();
+            unreachable!();
         };
         let Some(grade) = field.ask_grade(near, k) else {
-            unreachable();
+            unreachable!();
         };
         last = place_line(head, first, lines, near, far, grade, last);
     }
 }
 
-// Lays the lines of the first `count` bridges of `order`, bridge after bridge.
+// Lays the lines of some bridges, bridge after bridge.
 fn lay_lists<F: Field>(
     head: &mut Head,
     first: &mut [u16],
     lines: &mut [Line<F::Kind>],
     field: &mut F,
     order: &[u16],
-    count: u16,
 )
-    requires count { count ≤ length order.now }
-    requires ready { ReadyLists (F.tells field.old) (memory head.old first.old lines.old) (take count order.now) }
-    ensures laid { memory head.new first.new lines.new ≡ lay_all (memory head.old first.old lines.old) (recorded (F.tells field.old) (take count order.now)) }
+    requires { ReadyLists (F.tells field.old) (memory head.old first.old lines.old) order.now }
+    ensures laid { memory head.new first.new lines.new ≡ lay_all (memory head.old first.old lines.old) (recorded (F.tells field.old) order.now) }
     ensures same { F.tells field.new ≡ F.tells field.old }
 {
-    for passed in 0..count as usize {
-        lay_list(head, first, lines, field, order[passed]);
+    for near in order {
+        lay_list(head, first, lines, field, *near);
     }
-}
-
-// The walk, and then the book made anew from the lists of the bridges found.
-fn walk_and_record<F: Field>(
-    head: &mut Head,
-    first: &mut [u16],
-    lines: &mut [Line<F::Kind>],
-    field: &mut F,
-    start: u16,
-    order: &mut [u16],
-    marks: &mut [u16],
-    stamps: &mut [u16],
-) -> Result<u16, Refusal>
-    requires book { lawful (memory head.old first.old lines.old) ≡ true }
-    requires start { (1 ≤ start) × (start ≤ head.old.bridges) }
-    requires work { (head.old.bridges ≤ length order.old) × (head.old.bridges ≤ length marks.old) × (head.old.bridges ≤ length stamps.old) }
-    ensures survey { (told (λ count. count) result, memory head.new first.new lines.new) ≡ recorded_over (F.tells field.old) (memory head.old first.old lines.old) (walked (F.tells field.old) head.old.bridges head.old.slots start) }
-    ensures same { F.tells field.new ≡ F.tells field.old }
-{
-    let bridges = head.bridges;
-    let tally = walk(field, bridges, head.slots, start, order, marks, stamps)?;
-    start_afresh(head, first, lines, bridges);
-    lay_lists(head, first, lines, field, order, tally.found);
-    Ok(tally.lines)
 }
 
 // Makes the book anew from what the bus tells: the lines of every bridge reachable from `start`, in the order found.
@@ -104,10 +78,15 @@ pub fn survey<F: Field>(
 {
     admit_book(head, first, lines, work)?;
     let bridges = head.bridges;
-    if start < 1 || start > bridges {
+    if !(1..=bridges).contains(&start) {
         return Err(Refusal::BridgeOutOfRange);
     }
-    let (order, rest) = work.split_at_mut(usize::from(bridges));
-    let (marks, stamps) = rest.split_at_mut(usize::from(bridges));
-    walk_and_record(head, first, lines, field, start, order, marks, stamps)
+    let limits = Limits {
+        bridges,
+        lines: head.slots,
+    };
+    let tally = walk(field, limits, start, work)?;
+    start_afresh(head, first, lines, bridges);
+    lay_lists(head, first, lines, field, &work[..usize::from(tally.found)]);
+    Ok(tally.lines)
 }

@@ -1,16 +1,13 @@
-use Rattle.std.proofs.Common.{sym, refl, ap, ◌∙◌}
+use Rattle.std.proofs.Common.{sym, ap, ◌∙◌}
 use Rattle.stored.specs.declared.layout.Record.{Record}
 use Rattle.stored.proofs.Tells.{far_told, read}
 use Rattle.stored.proofs.StoredSurveyField.ask_far.Goals as goal
 
-pub returns-in_default : goal.returns-in_default
-returns-in_default c = record {
-  answer = ap (read (λ (rec : Record). rec.far)) c.in_default.ensures ∙ sym (far_told c.args.self.now.bytes.now c.args.bridge c.args.k);
-  same = refl;
-}
+pub returns-in_err-record-clause-answer : goal.returns-in_err-record-clause-answer
+returns-in_err-record-clause-answer c =
+    c.from_residual.ensures
+    ∙ ap (read (λ (rec : Record). rec.far)) c.in_err-record.ensures
+    ∙ sym (far_told c.args.self.now.shaped.bytes.now c.args.bridge c.args.k)
 
-pub returns : goal.returns
-returns c = record {
-  answer = ap (read (λ (rec : Record). rec.far)) c.in-Some.ensures ∙ sym (far_told c.args.self.now.bytes.now c.args.bridge c.args.k);
-  same = refl;
-}
+pub returns-clause-answer : goal.returns-clause-answer
+returns-clause-answer c = ap (read (λ (rec : Record). rec.far)) c.in_ok-record.ensures ∙ sym (far_told c.args.self.now.shaped.bytes.now c.args.bridge c.args.k)

@@ -1,8 +1,12 @@
-use Rattle.std.proofs.Common.{◌+◌, ◌*◌, ◌≤◌, length, refl, ◌∙◌, arith}
+use Rattle.std.proofs.Common.{rules, ◌≡◌, sym, subst, take, length, refl, ◌∙◌}
 use Rattle.std.proofs.lemmas.Result.{err_from_is_err_and}
+use Rattle.book.specs.Admission.{is_bridge}
 use Rattle.book.specs.Memory.{memory}
+use Rattle.survey.specs.Laying.{ReadyLists}
+use Rattle.survey.specs.Working.{stands_for}
 use Rattle.book.proofs.Admitted.{book_passed}
-use Rattle.survey.proofs.Surveys.{not_admitted, outside, goes}
+use Rattle.survey.proofs.Surveys.{not_admitted, bridge_within}
+use Rattle.survey.proofs.Placing.{found_ready}
 use Rattle.survey.proofs.Walks.{walks_all, stops-right}
 use Rattle.survey.proofs.recording.survey.Goals as goal
 
@@ -18,31 +22,21 @@ returns-in_err-admit_book g c =
       same = refl;
     })
 
-pub returns-then-start-lt1 : goal.returns-then-start-lt1
-returns-then-start-lt1 g c =
+pub returns-then-not-contains-clause-reachable : goal.returns-then-not-contains-clause-reachable
+returns-then-not-contains-clause-reachable g c = walks_all (g.F.Field.tells c.args.field.now) c.args.head.now.bridges c.args.head.now.slots c.args.start
+
+pub returns-in_err-tally-clause-refusals : goal.returns-in_err-tally-clause-refusals
+returns-in_err-tally-clause-refusals g c = stops-right (g.F.Field.tells c.args.field.now) c.args.head.now.bridges c.args.head.now.slots c.args.start
+
+pub lay_lists-requires : goal.lay_lists-requires
+lay_lists-requires g c =
     let m = memory c.args.head.now c.args.first.now c.args.lines.now in
     let tells = g.F.Field.tells c.args.field.now in
-    record {
-      survey = outside tells m (length c.args.work.now) c.args.start c.in_ok-admit_book.ensures.told c.then-start-lt1.either;
-      reachable = walks_all tells m.head.bridges m.head.slots c.args.start;
-      refusals = stops-right tells m.head.bridges m.head.slots c.args.start;
-      same = refl;
-    }
-
-pub returns : goal.returns
-returns g c =
-    let m = memory c.args.head.now c.args.first.now c.args.lines.now in
-    let tells = g.F.Field.tells c.args.field.now in
-    record {
-      survey = c.walk_and_record.ensures.survey ∙ goes tells m (length c.args.work.now) c.args.start c.in_ok-admit_book.ensures.told c.if-start-lt1.false c.if-start-bridges.false;
-      reachable = walks_all tells m.head.bridges m.head.slots c.args.start;
-      refusals = stops-right tells m.head.bridges m.head.slots c.args.start;
-      same = c.walk_and_record.ensures.same;
-    }
-
-pub walk_and_record-requires : goal.walk_and_record-requires
-walk_and_record-requires g c =
-    let m = memory c.args.head.now c.args.first.now c.args.lines.now in
-    let passed = book_passed m (length c.args.work.now) c.in_ok-admit_book.ensures.told in
-    let long : 8 * m.head.bridges + m.head.slots ≤ length c.args.work.now = passed.0 in
-    record { book = passed.1; start = (c.if-start-lt1.false, c.if-start-bridges.false); work = (omega arith, omega arith, omega arith) }
+    let same : c.contains.result ≡ is_bridge m.head.bridges c.args.start = search rules in
+    let law = (book_passed m (length c.args.work.now) c.in_ok-admit_book.ensures.told).1 in
+    let w = stands_for c.walk.new.work c.in_ok-tally.tally in
+    let order = take c.in_ok-tally.tally.found c.walk.new.work in
+    let m' = memory c.start_afresh.new.head c.start_afresh.new.first c.start_afresh.new.lines in
+    let within = bridge_within m.head.bridges c.args.start (sym same ∙ c.if-not-contains.false) in
+    let ready = found_ready m law tells c.args.start within.0 within.1 w (sym c.in_ok-tally.ensures.walked) in
+    rw c.from.ensures (subst (λ t. ReadyLists t m' order) (sym c.walk.ensures.same) (subst (λ x. ReadyLists tells x order) (sym c.start_afresh.ensures) ready))

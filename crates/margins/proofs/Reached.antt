@@ -1,7 +1,7 @@
 -- A bridge reaches another over lines better than w exactly where they are one, or the best width between them is better than w. Assumes nothing.
 use Rattle.std.proofs.Common.{◌≡◌, ℕ, Bool, true, false, not, List, Some, None, Option as Held, sym, refl}
 use mathlib.Core.Option.{Option, none, some}
-use Rattle.theory.specs.Order.{Ranked, better}
+use Rattle.theory.specs.Order.{Ranked}
 use Rattle.theory.specs.Arcs.{Arc, Pair, Lines, Answer}
 use Rattle.theory.specs.Reach.{reaches}
 use Rattle.theory.specs.Widest.{best_width}
@@ -11,12 +11,15 @@ use Rattle.theory.proofs.Routes.{reach_over, over_reach, route_reach}
 use Rattle.theory.proofs.Reaching.{reaches_tell}
 use Rattle.theory.proofs.Judges.{width_answers}
 use Rattle.theory.proofs.Margins.{answer_blocks}
+use Rattle.theory.proofs.MarginEnds.{lines_without}
+use Rattle.search.specs.Chains.{omitting}
 use Rattle.search.specs.Widths.{as_held}
+use Rattle.margins.specs.Telling.{exceeds}
 
--- whether a width that may be there is better than w
-abbrev pub exceeds : {G : Type 0} → (G → G → Bool) → Held G → G → Bool
-exceeds le None w = false
-exceeds le (Some v) w = better le v w
+-- lines stay proper with one left out
+pub lines_omitting : {G : Type 0} (n : ℕ) (arcs : List (Arc G)) (skip : Held ℕ) → Lines n arcs → Lines n (omitting skip arcs)
+lines_omitting n arcs None L = L
+lines_omitting n arcs (Some k) L = lines_without n arcs k L
 
 module _ {G : Type 0} (le : G → G → Bool) (n : ℕ) (arcs : List (Arc G)) (L : Lines n arcs) (w : G) where
   pub reaches_itself : (a b : ℕ) → a ≡ b → true ≡ reaches le n arcs w a b

@@ -1,8 +1,7 @@
 -- The rounds of marking what is reached, line after line. Assumes nothing.
-use Rattle.std.proofs.Common.{◌≡◌, ℕ, zero, suc, ◌+◌, ◌-◌, ◌<◌, ◌≤◌, Bool, true, false, cond, not, ◌&&◌, ◌||◌, eqb, List, [], ◌∷◌, length, get_or, drop, set, Some, None, sym, refl, ap, ◌∙◌, subst, arith, eq-eqb, ne_eqb, eqb-true}
+use Rattle.std.proofs.Common.{◌≡◌, ℕ, zero, suc, ◌+◌, ◌-◌, ◌<◌, ◌≤◌, Bool, true, false, cond, not, ◌&&◌, ◌||◌, eqb, List, [], ◌∷◌, length, get_or, drop, set, sym, refl, ap, ◌∙◌, subst, arith, eq-eqb, ne_eqb, eqb-true}
 use mathlib.Core.Path.{fun_ext}
 use borrow.Author.Tests.{eqb-false}
-use Rattle.std.specs.List.{slice_get}
 use Rattle.theory.specs.Order.{better}
 use Rattle.theory.specs.Lists.{Each}
 use Rattle.theory.specs.Arcs.{Arc}
@@ -16,16 +15,10 @@ use Rattle.margins.specs.declared.reach.Direction.{Direction}
 use Rattle.margins.specs.Facing.{pick, faced, steps}
 
 -- the slots from a place on
-pub drop_here : {A : Type 0} (xs : List A) (i : ℕ) (x : A) → Some x ≡ slice_get xs i → drop i xs ≡ x ∷ drop (suc i) xs
-drop_here [] i x e = absurd (let z : ◌≡◌ {A = ℕ} 0 1 = cc in omega arith)
-drop_here (y ∷ xs) zero x e = let is : y ≡ x = cc in ap (λ h. h ∷ xs) is
-drop_here (y ∷ xs) (suc i) x e = drop_here xs i x e
-
-pub drop_past : {A : Type 0} (xs : List A) (i : ℕ) → None ≡ slice_get xs i → drop i xs ≡ []
-drop_past [] zero e = refl
-drop_past [] (suc i) e = refl
-drop_past (y ∷ xs) zero e = absurd (let z : ◌≡◌ {A = ℕ} 0 1 = cc in omega arith)
-drop_past (y ∷ xs) (suc i) e = drop_past xs i e
+pub drop_read : {A : Type 0} (xs : List A) (i : ℕ) (x : A) → i < length xs → x ≡ get_or xs i x → drop i xs ≡ x ∷ drop (suc i) xs
+drop_read [] i x within is = absurd (omega arith)
+drop_read (y ∷ xs) zero x within is = ap (λ h. h ∷ xs) (sym is)
+drop_read (y ∷ xs) (suc i) x within is = drop_read xs i x (omega arith) is
 
 and_assoc : (x y z : Bool) → (x && (y && z)) ≡ ((x && y) && z)
 and_assoc true y z = refl

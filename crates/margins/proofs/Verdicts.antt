@@ -1,52 +1,22 @@
 -- The verdict on line numbers, step by step. Assumes nothing.
-use Rattle.std.proofs.Common.{◌≡◌, ℕ, suc, ◌<◌, ◌≤◌, Bool, true, false, cond, eqb, ◌⊎◌, List, [], ◌∷◌, Option as Held, sym, refl, ap, ◌∙◌, subst, inl, inr, ⊎_elim, arith, ne_eqb}
+use Rattle.std.proofs.Common.{◌≡◌, ℕ, ◌<◌, ◌≤◌, Bool, ◌⊎◌, List, Option as Held, sym, refl, ap, ◌∙◌, subst, inl, inr, ⊎_elim, arith}
 use mathlib.Core.Path.{fun_ext}
 use mathlib.Core.Option.{Option, none, some}
 use Rattle.std.proofs.lemmas.Bool.{cases_eq, cases_lt}
-use Rattle.theory.specs.Lists.{Each, among}
-use Rattle.theory.specs.Arcs.{Arc, Pair, Lines, width, numbered, all_numbered, numbers}
+use Rattle.theory.specs.Lists.{among}
+use Rattle.theory.specs.Arcs.{Arc, Pair, Lines, width, all_numbered, numbers}
 use Rattle.theory.specs.Routes.{EndsRight}
-use Rattle.theory.specs.Delivery.{with_line}
 use Rattle.theory.specs.Widest.{best_width}
-use Rattle.theory.specs.Margins.{Margin, without, on, margin_by, margin}
+use Rattle.theory.specs.Margins.{Margin, on, margin_by, margin}
 use Rattle.theory.specs.Verdicts.{no_route, compared, if_route, if_standing, margins_of}
 use Rattle.theory.proofs.Tests.{none_some}
-use Rattle.theory.proofs.Lists.{each_at}
-use Rattle.theory.proofs.Lines.{numbered_in, all_in}
+use Rattle.theory.proofs.Lines.{all_in}
 use Rattle.theory.proofs.RouteEnds.{ends_told, route_pair}
-use Rattle.book.specs.declared.memory.Line.{Line}
-use Rattle.standing.specs.Standing.{arc}
-use Rattle.standing.specs.Standing.{standing_from}
-use Rattle.margins.specs.Standing.{standing}
 use Rattle.search.specs.Widths.{as_held}
 use Rattle.margins.specs.Picking.{picked, ends_by}
 use Rattle.margins.specs.Telling.{as_told}
 use Rattle.margins.proofs.Picking.{picked_all}
 use Rattle.margins.proofs.Telling.{told_held, on_among}
-
--- standing lines count from 1, so the lines picked have no number 0
-numbers-above : {G : Type 0} (k : ℕ) (lines : List (Line G)) → Each (λ e. e.number ≡ 0 → ⊥) (standing_from (suc k) lines)
-numbers-above k [] = tt
-numbers-above {G} k (l ∷ ls) = go (eqb l.near 0) (numbers-above (suc k) ls)
-  where
-    go : (free : Bool) → Each (λ e. e.number ≡ 0 → ⊥) (standing_from (suc (suc k)) ls) → Each (λ e. e.number ≡ 0 → ⊥) (cond free (standing_from (suc (suc k)) ls) (arc (suc k) l ∷ standing_from (suc (suc k)) ls))
-    go true rest = rest
-    go false rest = ((λ e. omega arith), rest)
-
-picked-each : {G : Type 0} (P : Arc G → Type 0) (arcs : List (Arc G)) → Each P arcs → (ks : List ℕ) → Each P (picked arcs ks)
-picked-each P arcs each [] = tt
-picked-each {G} P arcs each (k ∷ ks) = go (numbered arcs k) (λ e is. each_at P arcs each e (numbered_in arcs k e is).0) (picked-each P arcs each ks)
-  where
-    go : (o : Option (Arc G)) → ((e : Arc G) → o ≡ some e → P e) → Each P (picked arcs ks) → Each P (with_line o (picked arcs ks))
-    go none here rest = rest
-    go (some e) here rest = (here e refl, rest)
-
-without-zero : {G : Type 0} (p : List (Arc G)) → Each (λ e. e.number ≡ 0 → ⊥) p → without p 0 ≡ p
-without-zero [] each = refl
-without-zero {G} (e ∷ p) each = ap (λ t. cond t (without p 0) (e ∷ without p 0)) (ne_eqb e.number 0 each.0) ∙ ap (λ (xs : List (Arc G)). e ∷ xs) (without-zero p each.1)
-
-pub picked-whole : {G : Type 0} (lines : List (Line G)) (ks : List ℕ) → without (picked (standing lines) ks) 0 ≡ picked (standing lines) ks
-picked-whole lines ks = without-zero (picked (standing lines) ks) (picked-each (λ e. e.number ≡ 0 → ⊥) (standing lines) (numbers-above 0 lines) ks)
 
 module _ {G : Type 0} (le : G → G → Bool) (n : ℕ) (arcs : List (Arc G)) (ks : List ℕ) where
   -- the numbers give no route

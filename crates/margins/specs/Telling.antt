@@ -1,7 +1,8 @@
 -- Margins as they are told and lie in memory. Assumes nothing.
-use Rattle.std.specs.Prelude.{ℕ, suc, cond, List, [], ◌∷◌, Some, None, Option as Held, ◌==◌}
+use Rattle.std.specs.Prelude.{ℕ, suc, Bool, false, cond, List, [], ◌∷◌, Some, None, Option as Held, ◌==◌}
 use Rattle.std.proofs.Math.Option.{Option, none, some}
 use Rattle.grade.specs.Told.{Reply, answers, refused}
+use Rattle.theory.specs.Order.{better}
 use Rattle.theory.specs.Arcs.{Arc, numbered}
 use Rattle.theory.specs.Margins.{Margin as EndsOf}
 use Rattle.theory.specs.Verdicts.{Verdict, no_route, outdone, accepted}
@@ -43,3 +44,8 @@ abbrev pub verdict_told : {G : Type 0} → Verdict G → List (Arc G) → List (
 verdict_told no_route arcs out = (refused 11, out)
 verdict_told outdone arcs out = (refused 12, out)
 verdict_told (accepted of) arcs out = (answers tt, placed (λ e. as_margin (of e)) arcs 1 out)
+
+-- whether a width that may be there is better than w
+abbrev pub exceeds : {G : Type 0} → (G → G → Bool) → Held G → G → Bool
+exceeds le None w = false
+exceeds le (Some v) w = better le v w

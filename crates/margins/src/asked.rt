@@ -1,13 +1,11 @@
-// A widest route whose margins are asked: the bridges 1 to n and their lines, the route's line numbers, its two ends and its width.
-use book::Line;
+// A widest route whose margins are asked: the tables that it lies in, its line numbers, its two ends and its width. What `Sound` says of it
+// is asked by contracts, not kept as ghost fields: each would owe a proof that it has one proof at most, and be no plainer.
+use search::{Ends, Tables};
 
 #[derive(Clone, Copy)]
 pub struct Asked<'a, G> {
-    pub n: u16,
-    pub first: &'a [u16],
-    pub lines: &'a [Line<G>],
+    pub tables: &'a Tables<'a, G>,
     pub numbers: &'a [u16],
-    pub start: u16,
-    pub end: u16,
+    pub ends: Ends,
     pub width: G,
 }

@@ -1,40 +1,28 @@
 // The route that a list of line numbers gives: its two ends and its width.
-ghost use Rattle.std.specs.Prelude.{◌≡◌, ℕ, ◌≤◌, [], map, length};
-ghost use Rattle.theory.specs.Lists.{among};
+ghost use Rattle.std.specs.Prelude.{◌≡◌, []};
+ghost use Rattle.std.specs.List.{list_any};
 ghost use Rattle.theory.specs.Arcs.{numbered, all_numbered, width as width_along};
 ghost use Rattle.theory.specs.Delivery.{with_line};
-ghost use Rattle.theory.specs.Margins.{without};
-ghost use Rattle.margins.specs.Standing.{standing};
+ghost use Rattle.search.specs.Chains.{omitting};
 ghost use Rattle.search.specs.Widths.{as_held};
-ghost use Rattle.margins.specs.Picking.{as_arc, as_place, picked, arrivals, follow, ends_by, ends_told, lowest_with};
+ghost use Rattle.margins.specs.Standing.{standing};
+ghost use Rattle.margins.specs.Picking.{as_arc, as_place, picked, arrives_by, follow, ends_by, ends_told, lowest_with};
 
 use book::Line;
 use grade::Grade;
-use search::record_at;
-
-// The two ends of a route.
-#[derive(Clone, Copy)]
-pub struct Ends {
-    pub start: u16,
-    pub end: u16,
-}
+use search::{Ends, record_at};
 
 // The record of a standing line.
 fn standing_at<G: Grade>(lines: &[Line<G>], number: u16) -> Option<Line<G>>
     ensures { as_arc number result ≡ numbered (standing lines.now) number }
 {
-    let Some(line) = record_at(lines, number) else {
-        return None;
-    };
-    if line.near == 0 {
-        return None;
-    }
-    Some(line)
+    let line = record_at(lines, number)?;
+    line.stands().then_some(line)
 }
 
 // Whether the line of one number arrives at a bridge.
 fn arrives<G: Grade>(lines: &[Line<G>], number: u16, bridge: u16) -> bool
-    ensures { result ≡ among (map (λ e. e.far) (with_line (numbered (standing lines.now) number) [])) bridge }
+    ensures { result ≡ arrives_by (standing lines.now) bridge number }
 {
     let Some(line) = standing_at(lines, number) else {
         return false;
@@ -44,14 +32,9 @@ fn arrives<G: Grade>(lines: &[Line<G>], number: u16, bridge: u16) -> bool
 
 // Whether one of the lines arrives at a bridge.
 fn arrives_at<G: Grade>(lines: &[Line<G>], numbers: &[u16], bridge: u16) -> bool
-    ensures { result ≡ among (arrivals (standing lines.now) numbers.now) bridge }
+    ensures { result ≡ list_any (arrives_by (standing lines.now) bridge) numbers.now }
 {
-    for at in 0..numbers.len() {
-        if arrives(lines, numbers[at], bridge) {
-            return true;
-        }
-    }
-    false
+    numbers.iter().any(|number| arrives(lines, *number, bridge))
 }
 
 // Where the lines arrive, if they are a route from `start`.
@@ -59,10 +42,8 @@ fn end_of<G: Grade>(lines: &[Line<G>], numbers: &[u16], start: u16) -> Option<u1
     ensures { as_place result ≡ follow (standing lines.now) numbers.now start }
 {
     let mut bridge = start;
-    for at in 0..numbers.len() {
-        let Some(line) = standing_at(lines, numbers[at]) else {
-            return None;
-        };
+    for (at, number) in numbers.iter().enumerate() {
+        let line = standing_at(lines, *number)?;
         if line.near != bridge {
             return None;
         }
@@ -78,29 +59,28 @@ fn end_of<G: Grade>(lines: &[Line<G>], numbers: &[u16], start: u16) -> Option<u1
 pub fn route_ends<G: Grade>(lines: &[Line<G>], numbers: &[u16]) -> Option<Ends>
     ensures { ends_told result ≡ ends_by (all_numbered (standing lines.now) numbers.now) }
 {
-    if numbers.len() == 0 {
-        return None;
-    }
-    let Some(line) = standing_at(lines, numbers[0]) else {
-        return None;
-    };
-    match end_of(lines, numbers, line.near) {
-        None => None,
-        Some(end) => Some(Ends {
-            start: line.near,
-            end,
-        }),
-    }
+    let number = numbers.first()?;
+    let line = standing_at(lines, *number)?;
+    let end = end_of(lines, numbers, line.near)?;
+    Some(Ends {
+        start: line.near,
+        end,
+    })
 }
 
 // The lower of the grade so far and that of one line, unless it is the one left out; the grade so far where alike.
-fn lowered<G: Grade>(lines: &[Line<G>], number: u16, skip: u16, so_far: Option<G>) -> Option<G>
-    ensures { result ≡ lowest_with G.le so_far (without (with_line (numbered (standing lines.now) number) []) skip) }
+fn lowered<G: Grade>(
+    lines: &[Line<G>],
+    number: u16,
+    skip: Option<u16>,
+    so_far: Option<G>,
+) -> Option<G>
+    ensures { result ≡ lowest_with G.le so_far (omitting skip (with_line (numbered (standing lines.now) number) [])) }
 {
     let Some(line) = standing_at(lines, number) else {
         return so_far;
     };
-    if number == skip {
+    if skip == Some(number) {
         return so_far;
     }
     let Some(grade) = so_far else {
@@ -114,12 +94,12 @@ fn lowered<G: Grade>(lines: &[Line<G>], number: u16, skip: u16, so_far: Option<G
 }
 
 // The lowest grade of the lines but for the one left out, the first along them where alike.
-pub fn lowest_but<G: Grade>(lines: &[Line<G>], numbers: &[u16], skip: u16) -> Option<G>
-    ensures { result ≡ as_held (width_along G.le (without (picked (standing lines.now) numbers.now) skip)) }
+pub fn lowest_but<G: Grade>(lines: &[Line<G>], numbers: &[u16], skip: Option<u16>) -> Option<G>
+    ensures { result ≡ as_held (width_along G.le (omitting skip (picked (standing lines.now) numbers.now))) }
 {
     let mut lowest = None;
-    for at in 0..numbers.len() {
-        lowest = lowered(lines, numbers[at], skip, lowest);
+    for number in numbers {
+        lowest = lowered(lines, *number, skip, lowest);
     }
     lowest
 }

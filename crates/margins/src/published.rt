@@ -8,6 +8,7 @@ use crate::judging::judge;
 use crate::margin::Margin;
 use book::{Head, Line, admit_book};
 use grade::{Grade, Refusal};
+use search::Tables;
 
 // Each standing line's margin, where the line numbers give a widest route.
 pub fn margins<G: Grade>(
@@ -24,5 +25,11 @@ pub fn margins<G: Grade>(
         return Err(Refusal::MemoryTooShort);
     }
     admit_book(head, first, lines, work)?;
-    judge(first, lines, head.bridges, work, numbers, out)
+    let tables = Tables {
+        n: head.bridges,
+        first,
+        lines,
+        skip: None,
+    };
+    judge(&tables, work, numbers, out)
 }

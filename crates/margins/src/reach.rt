@@ -1,6 +1,5 @@
 // What is reached over the lines that are better than a bar.
-ghost use Rattle.std.specs.Prelude.{◌≡◌, ℕ, ◌+◌, ◌*◌, ◌<◌, ◌≤◌, true, ◌||◌, length};
-ghost use Rattle.std.specs.List.{slice_get};
+ghost use Rattle.std.specs.Prelude.{◌≡◌, ℕ, ◌+◌, ◌<◌, ◌≤◌, true, ◌||◌, length};
 ghost use Rattle.theory.specs.Arcs.{Proper};
 ghost use Rattle.theory.specs.Lists.{Each};
 ghost use Rattle.theory.specs.Reach.{leads, marks};
@@ -10,9 +9,9 @@ ghost use Rattle.margins.specs.Facing.{pick, faced, steps};
 
 use book::Line;
 use grade::Grade;
-use search::clear;
+use search::{Tables, clear, is_marked};
 
-// Which way lines are followed.
+// Which way lines are followed. An enum, not a closure: the proofs go by these two ways.
 #[derive(Clone, Copy)]
 pub enum Direction {
     Forward,
@@ -31,36 +30,11 @@ impl Direction {
     }
 }
 
-// The record of the slot at a place: none past the table.
-pub fn slot_at<G: Grade>(lines: &[Line<G>], place: usize) -> Option<Line<G>>
-    ensures { result ≡ slice_get lines.now place }
-{
-    if place < lines.len() {
-        Some(lines[place])
-    } else {
-        None
-    }
-}
-
-// Whether a bridge is marked: none past the memory is.
-pub fn is_marked(marked: &[u16], bridge: u16) -> bool
-    ensures { result ≡ takens marked.now bridge }
-{
-    let place = bridge as usize;
-    place < marked.len() && marked[place] != 0
-}
-
 // Whether a line leads on from what is marked.
 fn leads_on<G: Grade>(line: Line<G>, way: Direction, bar: G, marked: &[u16]) -> bool
     ensures { result ≡ steps G.le bar way (takens marked.now) line }
 {
-    if line.near == 0 {
-        return false;
-    }
-    if line.grade.at_most(bar) {
-        return false;
-    }
-    is_marked(marked, way.bridge(line.near, line.far))
+    line.stands() && !line.grade.at_most(bar) && is_marked(marked, way.bridge(line.near, line.far))
 }
 
 // Marks also the bridge to which each line leads on from what is marked.
@@ -74,12 +48,9 @@ fn spread<G: Grade>(
     requires { Each (λ e. pick way e.far e.near < length spreading.old) (standing lines.now) }
     ensures { (b : ℕ) → takens spreading.new b ≡ (takens spreading.old b || leads G.le bar (takens marked.now) (faced way (standing lines.now)) b) }
 {
-    for place in 0..lines.len() {
-        let Some(line) = slot_at(lines, place) else {
-            return;
-        };
-        if leads_on(line, way, bar, marked) {
-            spreading[way.bridge(line.far, line.near) as usize] = 1;
+    for line in lines {
+        if leads_on(*line, way, bar, marked) {
+            spreading[usize::from(way.bridge(line.far, line.near))] = 1;
         }
     }
 }
@@ -93,26 +64,25 @@ fn is_same(before: &[u16], after: &[u16]) -> bool
 
 // Marks the bridges reached from one, in rounds over all lines until a round adds nothing.
 pub fn mark_reached<G: Grade>(
-    lines: &[Line<G>],
-    n: u16,
+    tables: &Tables<'_, G>,
     way: Direction,
     bar: G,
     from: u16,
     marked: &mut [u16],
     spare: &mut [u16],
 )
-    requires lines { Each (Proper n) (standing lines.now) }
-    requires from { from ≤ n }
-    requires marked { length marked.old ≡ n + 1 }
-    requires spare { n + 1 ≤ length spare.old }
-    ensures { (b : ℕ) → takens marked.new b ≡ marks G.le (faced way (standing lines.now)) bar from n b }
+    requires lines { Each (Proper tables.now.n) (standing tables.now.lines.now) }
+    requires from { from ≤ tables.now.n }
+    requires marked { length marked.old ≡ tables.now.n + 1 }
+    requires spare { tables.now.n + 1 ≤ length spare.old }
+    ensures { (b : ℕ) → takens marked.new b ≡ marks G.le (faced way (standing tables.now.lines.now)) bar from tables.now.n b }
 {
-    let (spreading, _) = spare.split_at_mut(n as usize + 1);
+    let (spreading, _) = spare.split_at_mut(usize::from(tables.n) + 1);
     clear(marked);
-    marked[from as usize] = 1;
-    for _round in 0..n {
+    marked[usize::from(from)] = 1;
+    for _round in 0..tables.n {
         spreading.copy_from_slice(marked);
-        spread(lines, way, bar, marked, spreading);
+        spread(tables.lines, way, bar, marked, spreading);
         if is_same(marked, spreading) {
             return;
         }

@@ -1,5 +1,5 @@
 -- The choice of the bridge to take next. Assumes nothing.
-use Rattle.std.proofs.Common.{◌≡◌, ℕ, suc, Bool, true, false, cond, List, get_or, Some, None, Option as Held, refl, arith}
+use Rattle.std.proofs.Common.{◌≡◌, ℕ, suc, Bool, true, false, cond, List, [], get_or, Some, None, Option as Held, sym, refl, ap, ◌∙◌, arith}
 use mathlib.Core.Option.{Option, none, some}
 use Rattle.theory.specs.Order.{better}
 use Rattle.theory.specs.Search.{best, choose, Choice as ChosenMark}
@@ -39,3 +39,15 @@ module _ {X : Type 0} (le : X → X → Bool) (read : ℕ → Held X) (labels ta
   pick_chosen k false None c e h = further k c h
   pick_chosen k false (Some x) None e h = new k x e
   pick_chosen k false (Some x) (Some c) e h = either k (better le x c.label) x c e (further k (Some c) h)
+
+-- one bridge more, for the choice and what is known of it
+pub chosen_more : {X : Type 0} (le : X → X → Bool) (read : ℕ → Held X) (labels taken : List ℕ) (k b : ℕ) (c r : Held (Choice X)) → b ≡ suc k
+    → ((ways : List ℕ) → c ≡ forget (best le (state_of read labels ways taken) k)) → Choosing read labels k c
+    → r ≡ pick le b (takens taken b) (read (get_or labels b 0)) c
+    → ((ways : List ℕ) → r ≡ forget (best le (state_of read labels ways taken) b)) × Choosing read labels b r
+chosen_more le read labels taken k b c r is picks held step =
+    let now = rw is at step in
+    rw is (
+      (λ ways. now ∙ ap (pick le (suc k) (takens taken (suc k)) (read (get_or labels (suc k) 0))) (picks ways) ∙ sym (best-more le read labels taken ways k)),
+      rw now (pick_chosen le read labels taken [] k (takens taken (suc k)) (read (get_or labels (suc k) 0)) c refl held),
+    )

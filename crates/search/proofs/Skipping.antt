@@ -2,6 +2,8 @@
 use Rattle.std.proofs.Common.{◌≡◌, ℕ, zero, suc, ◌-◌, ◌<◌, Bool, true, false, cond, ◌&&◌, eqb, ltb, leb, List, [], ◌∷◌, map, length, get_or, Some, None, Option as Held, sym, refl, ap, ◌∙◌, subst, inl, inr, arith, ne_eqb, eqb-true}
 use mathlib.Core.Path.{fun_ext}
 use mathlib.Core.Option.{Option, none, some}
+use borrow.Author.Tests.{eqb-false}
+use Rattle.std.specs.Option.{option_eq}
 use Rattle.std.proofs.lemmas.Bool.{and_parts, ltb-true, leb-true}
 use Rattle.theory.specs.Lists.{In, Distinct}
 use Rattle.theory.specs.Arcs.{Arc, Apart, AllApart, line}
@@ -10,25 +12,28 @@ use Rattle.theory.proofs.Tests.{false_unless}
 use Rattle.theory.proofs.Lists.{each_at, each_of}
 use Rattle.theory.proofs.Regrading.{in_without}
 use Rattle.book.specs.declared.memory.Line.{Line}
-use Rattle.standing.specs.Standing.{arc, line_at}
-use Rattle.search.specs.Chains.{linked, chain, towards, chain_of, table_line, line_but, Fan, Lawful, Holds}
+use Rattle.search.specs.Chains.{chain, towards, chain_of, omitting, line_but, Fan, Lawful, Holds}
 use Rattle.search.specs.Marks.{Marks, offered_all}
 use Rattle.search.proofs.Offers.{no_line_towards}
 
-module _ {G X : Type 0} (le : X → X → Bool) (hand : Arc G → X → X) (u : ℕ) (x : X) (k : ℕ) where
+module _ {G X : Type 0} (le : X → X → Bool) (hand : Arc G → X → X) (u : ℕ) (x : X) where
   -- a chain's first line, then the others
-  pub offered_split : (e : Arc G) (es : List (Arc G)) (m : Marks X) → offered_all le hand u x (without (e ∷ es) k) m ≡ offered_all le hand u x (without es k) (offered_all le hand u x (without (e ∷ []) k) m)
-  offered_split e es m = go (eqb e.number k)
+  pub offered_split : (skip : Held ℕ) (e : Arc G) (es : List (Arc G)) (m : Marks X) → offered_all le hand u x (omitting skip (e ∷ es)) m ≡ offered_all le hand u x (omitting skip es) (offered_all le hand u x (omitting skip (e ∷ [])) m)
+  offered_split None e es m = refl
+  offered_split (Some k) e es m = go (eqb e.number k)
     where
       go : (out : Bool) → offered_all le hand u x (cond out (without es k) (e ∷ without es k)) m ≡ offered_all le hand u x (without es k) (offered_all le hand u x (cond out [] (e ∷ [])) m)
       go true = refl
       go false = refl
 
-  pub offered_none : (e : Arc G) (m : Marks X) → eqb e.number k ≡ true → offered_all le hand u x (without (e ∷ []) k) m ≡ m
-  offered_none e m out = ap (λ t. offered_all le hand u x (cond t [] (e ∷ [])) m) out
+  pub offered_one : (skip : Held ℕ) (e : Arc G) (m : Marks X) → option_eq eqb skip (Some e.number) ≡ false → offered_all le hand u x (omitting skip (e ∷ [])) m ≡ offered_all le hand u x (e ∷ []) m
+  offered_one None e m on = refl
+  offered_one (Some k) e m on = ap (λ t. offered_all le hand u x (cond t [] (e ∷ [])) m) (ne_eqb e.number k (λ is. eqb-false k e.number on (sym is)))
 
-  pub offered_one : (e : Arc G) (m : Marks X) → eqb e.number k ≡ false → offered_all le hand u x (without (e ∷ []) k) m ≡ offered_all le hand u x (e ∷ []) m
-  offered_one e m on = ap (λ t. offered_all le hand u x (cond t [] (e ∷ [])) m) on
+-- of no line none is left out
+pub none_omitted : {G : Type 0} (skip : Held ℕ) → omitting {G = G} skip [] ≡ []
+none_omitted None = refl
+none_omitted (Some k) = refl
 
 far_without : {G : Type 0} (es : List (Arc G)) (k v : ℕ) → In v (map (λ e. e.far) (without es k)) → In v (map (λ e. e.far) es)
 far_without [] k v i = i
@@ -47,8 +52,9 @@ distinct_without (e ∷ es) k d = go (eqb e.number k) (distinct_without es k d.1
     go true rest = rest
     go false rest = ((λ i. d.0 (far_without es k e.far i)), rest)
 
-pub fan_without : {G : Type 0} (m : ℕ) (es : List (Arc G)) (k : ℕ) → Fan m es → Fan m (without es k)
-fan_without m es k f = record {
+pub fan_omitting : {G : Type 0} (m : ℕ) (es : List (Arc G)) (skip : Held ℕ) → Fan m es → Fan m (omitting skip es)
+fan_omitting m es None f = f
+fan_omitting m es (Some k) f = record {
   within = each_of (λ e. e.far < m) (without es k) (λ e i. each_at (λ e. e.far < m) es f.within e (in_without es k e i).0);
   apart = distinct_without es k f.apart;
 }
@@ -103,22 +109,7 @@ distinct_fars n first lines lawful u = go (ltb 0 u && leb u n) refl
         subst (λ (es : List (Arc _)). Distinct (map (λ e. e.far) es)) (sym nothing) tt
 
 -- tables that hold standing lines hold them but for one with one left out
-pub holds_without : {G : Type 0} (n : ℕ) (first : List ℕ) (lines : List (Line G)) (arcs : List (Arc G)) (k : ℕ) → Lawful n first lines → Holds n first lines arcs → AllApart arcs → line_but n first lines k ≡ line (without arcs k)
-holds_without n first lines arcs k lawful holds apart =
+pub holds_omitting : {G : Type 0} (n : ℕ) (first : List ℕ) (lines : List (Line G)) (arcs : List (Arc G)) (skip : Held ℕ) → Lawful n first lines → Holds n first lines arcs → AllApart arcs → line_but n first lines skip ≡ line (omitting skip arcs)
+holds_omitting n first lines arcs None lawful holds apart = fun_ext (λ u. fun_ext (λ v. holds u v))
+holds_omitting n first lines arcs (Some k) lawful holds apart =
     fun_ext (λ u. fun_ext (λ v. towards-without (chain_of n first lines u) (distinct_fars n first lines lawful u) k v ∙ ap (unless_out k) (holds u v) ∙ sym (line-without arcs apart k u v)))
-
--- no line of a chain has the number 0
-without-zero : {G : Type 0} (lines : List (Line G)) (k i : ℕ) → without (chain lines k i) 0 ≡ chain lines k i
-without-zero lines zero i = refl
-without-zero lines (suc k) zero = refl
-without-zero {G} lines (suc k) (suc j) = go (line_at lines (suc j)) (without-zero lines k)
-  where
-    go : (o : Held (Line G)) → ((i : ℕ) → without (chain lines k i) 0 ≡ chain lines k i) → without (linked (suc j) (chain lines k) o) 0 ≡ linked (suc j) (chain lines k) o
-    go None rest = refl
-    go (Some l) rest =
-        ap (λ t. cond t (without (chain lines k l.next) 0) (arc (suc j) l ∷ without (chain lines k l.next) 0)) (ne_eqb (suc j) 0 (λ e. omega arith))
-        ∙ ap (λ (es : List (Arc G)). arc (suc j) l ∷ es) (rest l.next)
-
--- number 0 leaves out none
-pub but_none : {G : Type 0} (n : ℕ) (first : List ℕ) (lines : List (Line G)) → line_but n first lines 0 ≡ table_line n first lines
-but_none n first lines = fun_ext (λ u. fun_ext (λ v. ap (λ es. towards es v) (without-zero lines (length lines) _)))

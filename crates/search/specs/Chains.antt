@@ -47,9 +47,14 @@ Lookup G = ℕ → ℕ → Option (Arc G)
 abbrev pub table_line : {G : Type 0} → ℕ → List ℕ → List (Line G) → Lookup G
 table_line n first lines u v = towards (chain_of n first lines u) v
 
--- the same with one line left out, by its number; number 0 leaves out none
-abbrev pub line_but : {G : Type 0} → ℕ → List ℕ → List (Line G) → ℕ → Lookup G
-line_but n first lines skip u v = towards (without (chain_of n first lines u) skip) v
+-- lines but for the one of a number that may be given
+abbrev pub omitting : {G : Type 0} → Held ℕ → List (Arc G) → List (Arc G)
+omitting None arcs = arcs
+omitting (Some k) arcs = without arcs k
+
+-- the same with one line left out, if its number is given
+abbrev pub line_but : {G : Type 0} → ℕ → List ℕ → List (Line G) → Held ℕ → Lookup G
+line_but n first lines skip u v = towards (omitting skip (chain_of n first lines u)) v
 
 -- what the line from u to v hands on of a widest route's label
 abbrev pub rule_of : {G : Type 0} → (G → G → Bool) → Lookup G → Rule (Label G)

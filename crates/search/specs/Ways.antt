@@ -1,5 +1,5 @@
 -- The way in to a bridge, as working memory holds it. Assumes nothing.
-use Rattle.std.specs.Prelude.{ℕ, zero, suc, ◌+◌, Bool, true, false, List, ◌∷◌, Some, None, Option as Held, ◌==◌, slice_index, slice_set}
+use Rattle.std.specs.Prelude.{ℕ, zero, suc, ◌+◌, Bool, true, false, List, [], ◌∷◌, Some, None, Option as Held, ◌==◌, slice_index, slice_set}
 
 -- one step of the way back: it ends at the start (the test) and where there is no label
 abbrev pub back_from : {X : Type 0} → (ℕ → List ℕ → List ℕ) → List ℕ → ℕ → Bool → Held X → ℕ → List ℕ
@@ -25,3 +25,8 @@ place_after at (Some x) = at + 1
 abbrev pub with_number : Held ℕ → List ℕ → List ℕ
 with_number None ks = ks
 with_number (Some k) ks = k ∷ ks
+
+-- the numbers that are told for each two bridges that follow one another from u on
+abbrev pub named_over : (ℕ → ℕ → Held ℕ) → ℕ → List ℕ → List ℕ
+named_over tells u [] = []
+named_over tells u (v ∷ bs) = with_number (tells u v) (named_over tells v bs)

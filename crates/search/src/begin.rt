@@ -5,9 +5,7 @@ ghost use Rattle.std.specs.Prelude.{◌≡◌, ℕ, ◌<◌, length, if◌then�
 pub fn clear(memory: &mut [u16])
     ensures { (k : ℕ) → slice_index memory.new k ≡ 0 }
 {
-    for place in memory.iter_mut() {
-        *place = 0;
-    }
+    memory.fill(0);
 }
 
 // Only the start is labelled, by the number `top`, and no bridge is taken.
@@ -20,5 +18,5 @@ pub fn begin(labels: &mut [u16], ways: &mut [u16], taken: &mut [u16], start: u16
     clear(labels);
     clear(ways);
     clear(taken);
-    labels[start as usize] = top;
+    labels[usize::from(start)] = top;
 }

@@ -7,17 +7,15 @@ use book::Line;
 use grade::Grade;
 
 // The first line number of a bridge's chain: 0 outside 1 to n.
+// A number, not an Option: links and the bridge table hold 0 for none in the memory that the caller lends.
 pub fn head_of(first: &[u16], n: u16, bridge: u16) -> u16
     requires { n ≤ length first.now }
     ensures { result ≡ head n first.now bridge }
 {
-    if bridge == 0 {
+    if bridge == 0 || bridge > n {
         return 0;
     }
-    if bridge > n {
-        return 0;
-    }
-    first[bridge as usize - 1]
+    first[usize::from(bridge) - 1]
 }
 
 // The number of the first line on a chain that arrives at `far`.
@@ -26,9 +24,7 @@ pub fn number_towards<G: Grade>(lines: &[Line<G>], first: u16, far: u16) -> Opti
 {
     let mut slot = first;
     for _step in 0..lines.len() {
-        let Some(line) = record_at(lines, slot) else {
-            return None;
-        };
+        let line = record_at(lines, slot)?;
         if far == line.far {
             return Some(slot);
         }

@@ -1,5 +1,5 @@
 // Labels as numbers in working memory: 0 is none, a line's number stands for that line's grade,
-// and any number above the line table's length for the start's label.
+// and any number above the line table's length for the start's label. Numbers, not Options, as the memory that callers lend is of u16.
 ghost use Rattle.std.specs.Prelude.{◌≡◌};
 ghost use Rattle.standing.specs.Standing.{line_at};
 ghost use Rattle.search.specs.Labels.{label_of};
@@ -13,44 +13,29 @@ use theory::labels::Label;
 pub fn record_at<G: Grade>(lines: &[Line<G>], number: u16) -> Option<Line<G>>
     ensures { result ≡ line_at lines.now number }
 {
-    if number == 0 {
-        return None;
-    }
-    let place = number as usize - 1;
-    if place < lines.len() {
-        Some(lines[place])
-    } else {
-        None
-    }
+    let place = usize::from(number).checked_sub(1)?;
+    lines.get(place).copied()
 }
 
-// The label that a number stands for.
+// The label that a number stands for. A pair of lines tells its own label in `turn`: one function for both would be given how to read a
+// line, and be longer.
 pub fn label_of<G: Grade>(lines: &[Line<G>], number: u16) -> Option<Label<G>>
     ensures { result ≡ label_of lines.now number }
 {
-    if number == 0 {
-        return None;
-    }
-    let at = number as usize - 1;
-    if at < lines.len() {
-        Some(Label::Limited(lines[at].grade))
-    } else {
-        Some(Label::Unlimited)
+    let place = usize::from(number).checked_sub(1)?;
+    match lines.get(place) {
+        Some(line) => Some(Label::Limited(line.grade)),
+        None => Some(Label::Unlimited),
     }
 }
 
-// Whether a label is at most another.
+// Whether a label is at most another. No derived order: two grades may rank alike and still differ.
 pub fn label_at_most<G: Grade>(a: Label<G>, b: Label<G>) -> bool
     ensures { result ≡ label_le G.le a b }
 {
-    match a {
-        Label::Unlimited => match b {
-            Label::Unlimited => true,
-            Label::Limited(_) => false,
-        },
-        Label::Limited(x) => match b {
-            Label::Unlimited => true,
-            Label::Limited(y) => x.at_most(y),
-        },
+    match (a, b) {
+        (_, Label::Unlimited) => true,
+        (Label::Unlimited, Label::Limited(_)) => false,
+        (Label::Limited(x), Label::Limited(y)) => x.at_most(y),
     }
 }

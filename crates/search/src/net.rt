@@ -7,7 +7,7 @@ ghost use Rattle.search.specs.Marks.{marks};
 pub trait Net {
     type Label: Copy;
 
-    // Whether a label is at most another.
+    // Whether a label is at most another: no std order, since labels that rank alike may differ.
     ghost le: { Self.Label → Self.Label → Bool };
 
     // The label that a number stands for, if any.
@@ -19,7 +19,7 @@ pub trait Net {
     // How many bridges there are.
     ghost bridges: { Self → ℕ };
 
-    // What the lines keep.
+    // What the lines keep: each net says it of itself, so it is no type's invariant.
     ghost sound: { Self → Type 0 };
 
     fn label_of(&self, number: u16) -> Option<Self::Label>

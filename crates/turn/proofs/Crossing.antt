@@ -1,10 +1,10 @@
 -- What the numbers of pairs of lines stand for, and that offering over all lines of the table, from a bridge to the other end
 -- of each line that touches it, is offering along the lines with both directions added together. Assumes nothing.
-use Rattle.std.proofs.Common.{◌≡◌, ℕ, zero, suc, ◌+◌, ◌-◌, ◌<◌, ◌≤◌, Bool, true, false, cond, not, ◌&&◌, eqb, leb, ◌⊎◌, List, [], ◌∷◌, ◌++◌, length, get_or, Some, None, Option as Held, sym, refl, ap, ◌∙◌, inl, inr, arith, eq-eqb, ne_eqb, eqb-true}
+use Rattle.std.proofs.Common.{◌≡◌, ℕ, zero, suc, ◌+◌, ◌<◌, ◌≤◌, Bool, true, false, cond, not, ◌&&◌, eqb, leb, ◌⊎◌, List, [], ◌∷◌, ◌++◌, length, get_or, Some, None, Option as Held, sym, refl, ap, ◌∙◌, inl, inr, arith, eq-eqb, ne_eqb, eqb-true}
 use mathlib.Core.Option.{Option, none, some}
 use borrow.Author.Tests.{eqb-false}
 use Rattle.std.specs.List.{slice_get}
-use Rattle.std.proofs.lemmas.Option.{slice_get-get_or, slice_get_past}
+use Rattle.std.proofs.lemmas.Option.{slice_get_past}
 use Rattle.theory.specs.Lists.{In}
 use Rattle.theory.specs.Order.{lower}
 use Rattle.theory.specs.Arcs.{Arc, at_grade, Proper, line}
@@ -28,20 +28,10 @@ use Rattle.search.specs.Marks.{Marks, offered, offered_all}
 use Rattle.turn.specs.Doubling.{Row, none_fixed, slot_lines, both_ways, both_rule, record_slots, slots_at, or_zero, partner, pair_slots, pair_label, pair_label_of, Paired, other_end, crossing, crossings}
 
 module _ (lines : List Row) (partners : List ℕ) where
-  -- a number that is not 0 stands for the pair of the record one below it
-  pair_nth : (number : ℕ) → (number ≡ 0 → ⊥) → pair_label_of lines partners number ≡ Some (pair_label lines partners (number - 1) (slice_get lines (number - 1)))
-  pair_nth zero ne = absurd (ne refl)
-  pair_nth (suc k) ne = let e : k ≡ suc k - 1 = omega arith in ap (λ j. Some (pair_label lines partners j (slice_get lines j))) e
-
-  pub pair_read : (number : ℕ) (d : Row) → (number ≡ 0 → ⊥) → number - 1 < length lines → Some (Limited (pair_slots lines partners (number - 1) (get_or lines (number - 1) d))) ≡ pair_label_of lines partners number
-  pair_read number d ne lt = sym (pair_nth number ne ∙ ap (λ o. Some (pair_label lines partners (number - 1) o)) (slice_get-get_or lines (number - 1) d lt))
-
-  pub pair_past : (number : ℕ) → (number ≡ 0 → ⊥) → length lines ≤ number - 1 → Some Unlimited ≡ pair_label_of lines partners number
-  pair_past number ne le = sym (pair_nth number ne ∙ ap (λ o. Some (pair_label lines partners (number - 1) o)) (slice_get_past lines (number - 1) le))
-
-  -- the number of a record stands for its pair
-  pub pair_there : (k : ℕ) (line : Row) → slice_get lines k ≡ Some line → pair_label_of lines partners (k + 1) ≡ Some (Limited (pair_slots lines partners k line))
-  pair_there k line e = let s : k + 1 ≡ suc k = omega arith in ap (pair_label_of lines partners) s ∙ ap (λ o. Some (pair_label lines partners k o)) e
+  -- a number past the table stands for the start's label
+  pub pair_past : (number : ℕ) → length lines < number → Some Unlimited ≡ pair_label_of lines partners number
+  pair_past zero past = absurd (omega arith)
+  pair_past (suc k) past = sym (ap (λ o. Some (pair_label lines partners k o)) (slice_get_past lines k (omega arith)))
 
 -- offers one after another
 pub offered-append : {G X : Type 0} (le : X → X → Bool) (hand : Arc G → X → X) (u : ℕ) (x : X) (xs ys : List (Arc G)) (m : Marks X) → offered_all le hand u x (xs ++ ys) m ≡ offered_all le hand u x ys (offered_all le hand u x xs m)

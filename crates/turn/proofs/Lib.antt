@@ -1,4 +1,3 @@
 pub mod Loads
 pub mod Crossing
-pub mod Trails
 pub mod Turnings

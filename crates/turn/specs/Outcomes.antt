@@ -14,7 +14,7 @@ use Rattle.book.specs.Memory.{Memory}
 use Rattle.book.specs.Admission.{admission}
 use Rattle.standing.specs.Standing.{standing}
 use Rattle.search.specs.Chains.{Lookup, numbered}
-use Rattle.search.specs.Ways.{with_number}
+use Rattle.search.specs.Ways.{named_over}
 use Rattle.turn.specs.declared.told.Turned.{Turned}
 use Rattle.turn.specs.Doubling.{Row, none_fixed, both_rule, slots_at, or_zero}
 
@@ -58,9 +58,9 @@ turning_round slots m work a z bridges turned =
 abbrev pub against : List Row → Lookup Slots → ℕ → ℕ → ℕ → Held ℕ
 against lines look w u v = cond (nat_lt (slots_at lines (or_zero (numbered (look u v)))) w) (numbered (look v u)) None
 
+-- the lines to turn over a row of bridges, from u on
 abbrev pub named_by : List Row → Lookup Slots → ℕ → ℕ → List ℕ → List ℕ
-named_by lines look w u [] = []
-named_by lines look w u (v ∷ bs) = with_number (against lines look w u v) (named_by lines look w v bs)
+named_by lines look w u bs = named_over (against lines look w) u bs
 
 -- the width that the state tells
 abbrev pub state_width : State (Label ℕ) → ℕ → Option ℕ

@@ -1,5 +1,5 @@
 // The load of a slots book.
-ghost use Rattle.std.specs.Prelude.{◌≡◌, ◌≤◌, not, length, ◌==◌};
+ghost use Rattle.std.specs.Prelude.{◌≡◌, ◌≤◌, length};
 ghost use Rattle.grade.specs.Told.{told};
 ghost use Rattle.book.specs.Memory.{memory};
 ghost use Rattle.grade.specs.Kinds.{slots_of};
@@ -8,13 +8,6 @@ ghost use Rattle.turn.specs.Loads.{load_of, loading};
 use book::{Head, Line, admit_book};
 use grade::{Refusal, Slots};
 
-// Whether a line stands in a slot: the near bridge of a free one is 0.
-fn stands(line: Line<Slots>) -> bool
-    ensures { result ≡ not (line.near == 0) }
-{
-    line.near != 0
-}
-
 // The sum of the slots of all standing lines, taken by line number.
 fn sum_slots(lines: &[Line<Slots>]) -> u32
     requires { length lines.now ≤ 1024 }
@@ -22,7 +15,7 @@ fn sum_slots(lines: &[Line<Slots>]) -> u32
 {
     let mut sum = 0;
     for line in lines {
-        if stands(*line) {
+        if line.stands() {
             sum += line.grade.count();
         }
     }

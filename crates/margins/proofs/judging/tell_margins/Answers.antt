@@ -8,11 +8,11 @@ pub write_margins-requires : goal.write_margins-requires
 write_margins-requires g c =
     let le = g.G.Grade.le in
     let t = c.args.asked.now in
-    let arcs = standing t.lines.now in
+    let arcs = standing t.tables.now.lines.now in
     record {
       sound = c.requires.sound;
-      reached = λ b. c.mark_reached.ensures b ∙ ap (λ es. marks le es t.width t.start t.n b) (faced_forward arcs);
-      reaching = λ b. c.mark_reached-2.ensures b ∙ reaches-back le t.n arcs c.requires.sound.proper t.width t.end b;
+      reached = λ b. c.mark_reached.ensures b ∙ ap (λ es. marks le es t.width t.ends.start t.tables.now.n b) (faced_forward arcs);
+      reaching = λ b. c.mark_reached-2.ensures b ∙ reaches-back le t.tables.now.n arcs c.requires.sound.proper t.width t.ends.end b;
       work = omega arith;
       out = c.requires.out;
     }

@@ -11,5 +11,5 @@ returns g c = λ x top.
     let ways = c.begin.new.ways in
     let taken = c.begin.new.taken in
     c.run_turns.ensures
-    ∙ ap (search_from g.N.Net.le (g.N.Net.rule net) c.args.n c.args.end c.args.n)
-    (begun read c.requires.none c.args.top x top c.args.start labels ways taken c.begin.ensures.labels c.begin.ensures.ways c.begin.ensures.taken)
+    ∙ ap (search_from g.N.Net.le (g.N.Net.rule net) c.args.n c.args.ends.end c.args.n)
+    (begun read c.requires.none c.args.top x top c.args.ends.start labels ways taken c.begin.ensures.labels c.begin.ensures.ways c.begin.ensures.taken)

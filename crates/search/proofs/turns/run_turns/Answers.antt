@@ -2,13 +2,8 @@ use Rattle.std.proofs.Common.{◌≡◌, ℕ, suc, ◌+◌, ◌-◌, set, sym, r
 use Rattle.theory.specs.Search.{search_from}
 use Rattle.search.specs.Marks.{state_of, takens}
 use Rattle.search.proofs.States.{state_path, taken_set}
-use Rattle.search.proofs.Searching.{turn_none, turn_end, turn_on}
+use Rattle.search.proofs.Searching.{turn_end, turn_on}
 use Rattle.search.proofs.turns.run_turns.Goals as goal
-
-pub loop-turn-init : goal.loop-turn-init
-loop-turn-init g c =
-    let whole : c.args.n - 0 ≡ c.args.n = omega arith in
-    rw whole refl
 
 pub loop-turn-preserved : goal.loop-turn-preserved
 loop-turn-preserved g c =
@@ -23,23 +18,6 @@ loop-turn-preserved g c =
     ∙ sym (turn_on le rule c.args.n c.args.end s k c.in-Some.choice (c.in-Some.ensures.picks ways) (ne_eqb _ _ c.if-is_end.false))
     ∙ (rw more at c.loop-turn.invariant)
 
-pub returns : goal.returns
-returns g c =
-    let done : c.args.n - c.loop-turn._turn ≡ 0 = omega arith in
-    rw done at c.loop-turn.invariant
-
-pub returns-in_default : goal.returns-in_default
-returns-in_default g c =
-    let le = g.N.Net.le in
-    let read = g.N.Net.read c.args.net.now in
-    let rule = g.N.Net.rule c.args.net.now in
-    let ways = c.loop-turn.ways in
-    let s = state_of read c.loop-turn.labels ways c.loop-turn.taken in
-    let k : ℕ = c.args.n - (c.loop-turn._turn + 1) in
-    let more : c.args.n - c.loop-turn._turn ≡ suc k = omega arith in
-    sym (turn_none le rule c.args.n c.args.end s k (c.in_default.ensures.picks ways))
-    ∙ (rw more at c.loop-turn.invariant)
-
 pub returns-then-is_end : goal.returns-then-is_end
 returns-then-is_end g c =
     let le = g.N.Net.le in
@@ -51,6 +29,6 @@ returns-then-is_end g c =
     let k : ℕ = c.args.n - (c.loop-turn._turn + 1) in
     let more : c.args.n - c.loop-turn._turn ≡ suc k = omega arith in
     let chosen = c.in-Some.ensures in
-    state_path refl (ap (λ u. takens (set taken u 1)) c.if-is_end.true ∙ taken_set taken c.args.end (omega (arith, chosen.within)))
+    rw c.from.ensures (state_path refl (ap (λ u. takens (set taken u 1)) c.if-is_end.true ∙ taken_set taken c.args.end (omega (arith, chosen.within)))
     ∙ sym (turn_end le rule c.args.n c.args.end s k c.in-Some.choice (chosen.picks ways) (eq-eqb _ _ c.if-is_end.true))
-    ∙ (rw more at c.loop-turn.invariant)
+    ∙ (rw more at c.loop-turn.invariant))

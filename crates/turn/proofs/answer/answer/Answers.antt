@@ -30,29 +30,29 @@ width-taken false x w e = absurd (let z : ◌≡◌ {A = ℕ} 0 1 = cc in omega 
 
 pub write_bridges-stops-requires : goal.write_bridges-stops-requires
 write_bridges-stops-requires c =
-    let net = c.args.net.now in
-    let read = pair_label_of net.lines.now net.partners.now in
-    let labels : List ℕ = c.args.labels.now in
-    let taken : List ℕ = c.args.taken.now in
-    let z : ℕ = c.args.end in
-    let way = row_is read labels c.args.ways.now taken c.way_back-at.new.spare net.n (length c.args.spare.now) c.args.start z c.way_back-at.result c.requires.spare c.way_back-at.ensures.row in
-    let told : Some c.in-Some.width ≡ width_in (takens taken z) (read (get_or labels z 0)) = c.in-Some.ensures ∙ ap (width_in (takens taken z)) c.label_of-label.ensures in
+    let net = c.args.tables.now in
+    let read = pair_label_of net.lines.now c.args.partners.now in
+    let labels : List ℕ = c.args.ended.now.labels.now in
+    let taken : List ℕ = c.args.ended.now.taken.now in
+    let z : ℕ = c.args.ends.end in
+    let way = row_is read labels c.args.ended.now.ways.now taken c.way_back-at.new.spare net.n (length c.args.spare.now) c.args.ends.start z c.way_back-at.result c.requires.spare c.way_back-at.ensures.row in
+    let told : Some c.in-Some.width ≡ width_in (takens taken z) (read (get_or labels z 0)) = (rw c.is_marked-is_taken.ensures at c.in-Some.ensures) ∙ ap (width_in (takens taken z)) (rw c.from.ensures at c.label_of-label.ensures) in
     let short = c.requires.short (width-taken (takens taken z) (read (get_or labels z 0)) c.in-Some.width told) in
     omega (arith, ap length way, short)
 
 pub returns : goal.returns
 returns c =
-    let net = c.args.net.now in
+    let net = c.args.tables.now in
     let lines : List Row = net.lines.now in
     let n : ℕ = net.n in
-    let read = pair_label_of lines net.partners.now in
-    let labels : List ℕ = c.args.labels.now in
-    let ways : List ℕ = c.args.ways.now in
-    let taken : List ℕ = c.args.taken.now in
-    let a : ℕ = c.args.start in
-    let z : ℕ = c.args.end in
+    let read = pair_label_of lines c.args.partners.now in
+    let labels : List ℕ = c.args.ended.now.labels.now in
+    let ways : List ℕ = c.args.ended.now.ways.now in
+    let taken : List ℕ = c.args.ended.now.taken.now in
+    let a : ℕ = c.args.ends.start in
+    let z : ℕ = c.args.ends.end in
     let w : ℕ = c.in-Some.width in
-    let look = table_line n c.args.first.now lines in
+    let look = table_line n net.first.now lines in
     let old : List ℕ = c.args.bridges.now in
     let old' : List ℕ = c.args.turned.now in
     let spare : List ℕ = c.way_back-at.new.spare in
@@ -61,7 +61,7 @@ returns c =
     let route : List ℕ = way_in n (state_of read labels ways taken) a z [] in
     let way : row ≡ route = row_is read labels ways taken spare n (length c.args.spare.now) a z at c.requires.spare c.way_back-at.ensures.row in
     let one_more : length row + 1 ≡ length (a ∷ row) = omega arith in
-    let told : Some w ≡ width_in (takens taken z) (read (get_or labels z 0)) = c.in-Some.ensures ∙ ap (width_in (takens taken z)) c.label_of-label.ensures in
+    let told : Some w ≡ width_in (takens taken z) (read (get_or labels z 0)) = (rw c.is_marked-is_taken.ensures at c.in-Some.ensures) ∙ ap (width_in (takens taken z)) (rw c.from.ensures at c.label_of-label.ensures) in
     let stops-is : c.write_bridges-stops.result ≡ length (a ∷ route) = c.write_bridges-stops.ensures.count ∙ one_more ∙ ap (λ (r : List ℕ). length (a ∷ r)) way in
     let count-is : c.write_turned-count.result ≡ length (named_by lines look w a route) = c.write_turned-count.ensures.count ∙ ap (λ (r : List ℕ). length (named_by lines look w a r)) way in
     outcome_path

@@ -1,4 +1,4 @@
-use Rattle.std.proofs.Common.{◌≡◌, ℕ, ◌+◌, leb, Option as Maybe, ap, ◌∙◌, arith}
+use Rattle.std.proofs.Common.{ℕ, ◌+◌, leb, Option as Maybe, ap, ◌∙◌}
 use Rattle.theory.specs.Order.{lower}
 use Rattle.theory.specs.Widest.{label_le, narrow}
 use Rattle.theory.specs.declared.labels.Label.TheVariants.{Limited}
@@ -13,7 +13,6 @@ returns c =
     let before = marks (pair_label_of lines partners) c.args.labels.now c.args.ways.now in
     let u = c.args.from in
     let sum = pair_slots lines partners c.args.at c.args.line in
-    let whole : c.count.result + c.slots_back.result ≡ sum = omega (arith, c.count.ensures, c.slots_back.ensures.sum) in
     c.offer_to.ensures
-    ∙ ap (λ (s : ℕ). offered_to (label_le leb) u (lower (label_le leb) c.args.held.label (Limited s)) c.in-Some.to before) whole
+    ∙ ap (λ (s : ℕ). offered_to (label_le leb) u (lower (label_le leb) c.args.held.label (Limited s)) c.in-Some.to before) c.slots_both-slots.ensures
     ∙ ap (λ (o : Maybe ℕ). offered_all (label_le leb) (narrow leb) u c.args.held.label (crossing u (c.args.at + 1) sum o) before) c.in-Some.ensures

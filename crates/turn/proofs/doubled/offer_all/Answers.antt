@@ -1,25 +1,10 @@
 use Rattle.std.proofs.Common.{◌+◌, ◌<◌, ◌≤◌, leb, List, length, get_or, drop, sym, ap, ◌∙◌, arith}
 use Rattle.std.proofs.lemmas.List.{drop_all, drop_more}
-use Rattle.std.proofs.lemmas.Option.{slice_get-get_or}
 use Rattle.theory.specs.Widest.{label_le, narrow}
 use Rattle.search.specs.Marks.{marks, offered_all}
 use Rattle.turn.specs.Doubling.{Row, pair_slots, pair_label_of, other_end, crossing, crossings}
 use Rattle.turn.proofs.Crossing.{offered-append}
 use Rattle.turn.proofs.doubled.offer_all.Goals as goal
-
-pub offer_across-requires : goal.offer_across-requires
-offer_across-requires c =
-    let lines = c.args.net.now.lines.now in
-    let k = c.loop-at.at in
-    let here : k < length lines = omega arith in
-    let there = slice_get-get_or lines k (record { near = 0; far = 0; next = 0; grade = record { raw = 0 } }) here in
-    record {
-      held = c.requires.held;
-      line = there;
-      few = omega (arith, c.requires.few);
-      within = λ v e. let w = c.requires.within _ k v there e in omega arith;
-      alike = omega (arith, c.requires.alike);
-    }
 
 pub loop-at-preserved : goal.loop-at-preserved
 loop-at-preserved c =

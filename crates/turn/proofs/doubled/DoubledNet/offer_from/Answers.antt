@@ -10,7 +10,7 @@ offer_all-requires c =
     let t = c.args.self.now in
     let sound = c.requires.sound in
     record {
-      held = c.requires.label;
+      held = rw c.from.ensures c.requires.label;
       few = sound.few;
       within = λ line k v there e. let w = ends_within t.n t.lines.now t.partners.now sound k line there c.args.bridge v e in omega (arith, w, c.requires.labels);
       alike = c.requires.ways ∙ sym c.requires.labels;

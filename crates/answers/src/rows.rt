@@ -1,5 +1,5 @@
 // What is told of each line slot when margins are.
-ghost use Rattle.std.specs.Prelude.{◌≡◌, ℕ, ◌+◌, ◌<◌, length};
+ghost use Rattle.std.specs.Prelude.{◌≡◌, ℕ, ◌<◌, length, IfOk};
 ghost use Rattle.theory.specs.Arcs.{numbered as line_of};
 ghost use Rattle.standing.specs.Standing.{standing_from};
 ghost use Rattle.answers.specs.Answers.{is_there, slots_at, row as told_row, rows as told_rows};
@@ -9,45 +9,49 @@ use grade::Slots;
 use margins::Margin;
 use replies::LineMargin;
 use search::record_at;
+use std::alloc::{AllocError, Global};
 
 // Whether a line of this number stands.
 fn stands(lines: &[Line<Slots>], number: u16) -> bool
     ensures { result ≡ is_there (line_of (standing_from 1 lines.now) number) }
 {
-    match record_at(lines, number) {
-        None => false,
-        Some(line) => line.near != 0,
-    }
+    record_at(lines, number).is_some_and(|line| line.stands())
 }
 
 // The slots of an end.
 fn slots_at(end: Option<Slots>) -> Option<u32>
     ensures { result ≡ slots_at end }
 {
-    match end {
-        None => None,
-        Some(grade) => Some(grade.count()),
-    }
+    end.map(|grade| grade.count())
 }
 
-// What is told of one slot.
-fn row(stands: bool, margin: Margin<Slots>) -> LineMargin
+// What is told of one slot: the ends of its line, where one stands.
+fn row(stands: bool, margin: Margin<Slots>) -> Option<LineMargin>
     ensures { result ≡ told_row stands margin }
 {
-    LineMargin {
-        stands,
+    if !stands {
+        return None;
+    }
+    Some(LineMargin {
         low: slots_at(margin.low),
         high: slots_at(margin.high),
-    }
+    })
 }
 
 // What is told of every slot.
-pub fn write_rows(lines: &[Line<Slots>], margins: &[Margin<Slots>], table: &mut [LineMargin])
-    requires { (length table.old ≡ length margins.now) × (length table.old < 65535) }
-    ensures { table.new ≡ told_rows (λ k. is_there (line_of (standing_from 1 lines.now) k)) 1 margins.now }
+pub fn rows(
+    heap: Global,
+    lines: &[Line<Slots>],
+    margins: &[Margin<Slots>],
+) -> Result<Vec<Option<LineMargin>>, AllocError>
+    requires { length margins.now < 65535 }
+    ensures { IfOk result (λ v. v.items ≡ told_rows (λ k. is_there (line_of (standing_from 1 lines.now) k)) 1 margins.now) }
 {
-    for place in 0..table.len() {
-        let number = (place + 1) as u16;
-        table[place] = row(stands(lines, number), margins[place]);
+    let mut rows = Vec::new(heap);
+    for (i, margin) in margins.iter().enumerate() {
+        // `as` cuts nothing: there are fewer than 65,535 rows.
+        let number = (i + 1) as u16;
+        rows.push(row(stands(lines, number), *margin))?;
     }
+    Ok(rows)
 }

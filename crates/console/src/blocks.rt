@@ -42,11 +42,11 @@ pub fn answer_block(
     ensures { (line : List ℕ) → kept held.old ≡ take 32 line → IfOk result (λ text. Replied (finished line block.now) (tables book.old) (string_bytes text) (tables book.new) × (kept held.new ≡ take 32 (unfinished line block.now))) }
 {
     let mut text = String::new(heap);
-    let mut at = 0;
-    while let Some(used) = fill(held, &block[at..]) {
+    let mut rest = block;
+    while let Some(used) = fill(held, rest) {
         put_reply(heap, book, held, &mut text)?;
         held.clear();
-        at += used;
+        rest = &rest[used..];
     }
     Ok(text)
 }

@@ -6,23 +6,21 @@ use Rattle.answers.proofs.answering.answer_margins.Goals as goal
 
 pub slice_bounds-tell_margins-end : goal.slice_bounds-tell_margins-end
 slice_bounds-tell_margins-end c =
-    let fits = within (tables c.args.book.now) 192 c.bridge.result c.bridge-2.result blank blank _ c.in-Ok.ensures in
-    omega (arith, fits, c.route-found.auto.numbers)
+    let fits = within (tables c.args.book.now) 192 (bridge_of c.args.start) (bridge_of c.args.end) blank blank _ c.in-Ok.ensures in
+    omega (arith, fits, c.route.auto.numbers)
 
 pub returns-in-Ok : goal.returns-in-Ok
 returns-in-Ok c =
     let m = tables c.args.book.now in
     let f = c.in-Ok.found in
-    let row = c.route-found.new.numbers in
+    let row = c.route.new.numbers in
     let whole : f.length - 0 ≡ f.length = omega arith in
     let told = ap (λ r. shown (margins_along in_memory m r)) c.in-Ok.ensures in
-    let bridges = ap (λ a. shown (margins_along in_memory m (in_memory.route a c.bridge-2.result m))) c.bridge.ensures ∙ ap (λ z. shown (margins_along in_memory m (in_memory.route (bridge_of c.args.start) z m))) c.bridge-2.ensures in
-    let same = ap (λ k. shown (margined (λ j. in_memory.stands j m) (in_memory.margins (take k row) m))) whole ∙ told ∙ bridges in
+    let same = ap (λ k. shown (margined (λ j. in_memory.stands j m) (in_memory.margins (take k row) m))) whole ∙ told in
     IfOk-weaker c.tell_margins.result _ _ (λ s e. e ∙ same) c.tell_margins.ensures
 
 pub returns-in-Err : goal.returns-in-Err
 returns-in-Err c =
     let m = tables c.args.book.now in
     let told = ap (λ r. shown (margins_along in_memory m r)) c.in-Err.ensures in
-    let bridges = ap (λ a. shown (margins_along in_memory m (in_memory.route a c.bridge-2.result m))) c.bridge.ensures ∙ ap (λ z. shown (margins_along in_memory m (in_memory.route (bridge_of c.args.start) z m))) c.bridge-2.ensures in
-    IfOk-weaker c.refusal_reply.result _ _ (λ s e. e ∙ told ∙ bridges) c.refusal_reply.ensures
+    IfOk-weaker c.refusal_reply.result _ _ (λ s e. e ∙ told) c.refusal_reply.ensures

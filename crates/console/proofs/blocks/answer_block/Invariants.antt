@@ -1,4 +1,4 @@
-use Rattle.std.proofs.Common.{◌≡◌, ℕ, ◌-◌, ◌≤◌, List, length, take, string_bytes}
+use Rattle.std.proofs.Common.{◌≡◌, ℕ, ◌≤◌, List, length, take, drop, string_bytes}
 use Rattle.answers.specs.Answers.{tables}
 use Rattle.input.specs.Filling.{kept}
 use Rattle.console.proofs.Going.{Going}
@@ -6,8 +6,8 @@ use Rattle.console.proofs.blocks.answer_block.Given as goal
 
 abbrev pub invariant-loop-used : goal.invariant-loop-used
 invariant-loop-used l =
-    (l.at ≤ length l.block)
-    × ((line : List ℕ) → kept l.initial.held ≡ take 32 line → Going line l.block (tables l.initial.book) l.at (kept l.held) (string_bytes l.text) (tables l.book))
+    (at : ℕ) × (at ≤ length l.block) × (l.rest ≡ drop at l.block)
+    × ((line : List ℕ) → kept l.initial.held ≡ take 32 line → Going line l.block (tables l.initial.book) at (kept l.held) (string_bytes l.text) (tables l.book))
 
 abbrev pub decreases-loop-used : goal.decreases-loop-used
-decreases-loop-used l = length l.block - l.at
+decreases-loop-used l = length l.rest

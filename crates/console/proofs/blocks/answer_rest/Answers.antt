@@ -14,13 +14,6 @@ one_line : (line : List ℕ) → (length (take 32 line) ≡ 0 → ⊥) → last_
 one_line [] h = absurd (h refl)
 one_line (b ∷ bs) h = refl
 
-pub returns-then-is_unbegun : goal.returns-then-is_unbegun
-returns-then-is_unbegun c = λ line e.
-    let m = tables c.args.book.now in
-    let none = eqb-true _ 0 (sym c.is_unbegun.ensures ∙ c.if-is_unbegun.true) in
-    let ends = no_line line (ap length (sym e) ∙ none) in
-    subst (λ ls. Replied ls m (string_bytes c.new-text.result) m) (sym ends) (subst (λ t. Replied [] m t m) (sym c.new-text.ensures.bytes) (replied_none m))
-
 pub returns : goal.returns
 returns c = λ line e.
     let m = tables c.args.book.now in

@@ -36,10 +36,6 @@ other e n h number =
     ap (λ (k : ℕ). codes "no " ++ decimal k) number
     ∙ sym (ap (λ l. codes "no " ++ l) (ap (λ (b : Bool). decimal (refusal e).0 ++ cond b (word (refusal e).1) []) (not-17 e h) ∙ append-nil (decimal (refusal e).0)))
 
-pub returns-in-WrongScriptLine : goal.returns-in-WrongScriptLine
-returns-in-WrongScriptLine c =
-    IfOk-weaker c.placed.result _ _ (λ s e. e ∙ bad-line c.args.refusal c.in-WrongScriptLine.place c.number-number.result c.in-WrongScriptLine.is c.number-number.ensures) c.placed.ensures
-
 pub returns-in_default : goal.returns-in_default
 returns-in_default c =
-    IfOk-weaker c.numbered.result _ _ (λ s e. e ∙ other c.args.refusal c.number-number.result c.in_default.not-WrongScriptLine c.number-number.ensures) c.numbered.ensures
+    IfOk-weaker c.format-in_default.result _ _ (λ s e. e ∙ other c.args.refusal c.number-number.result c.in_default.not-WrongScriptLine c.number-number.ensures) c.format-in_default.ensures.ok

@@ -4,4 +4,4 @@ use Rattle.replies.specs.Replies.{marked}
 use Rattle.replies.proofs.lists.MarkedDisplay.fmt.Given as goal
 
 abbrev pub invariant-loop-i : goal.invariant-loop-i
-invariant-loop-i g l = IsPlainFormatter l.initial.f → HasWritten g.W.Write.write_str_gives l.initial.f (marked 1 (take l.i l.self.marks.now)) l.f
+invariant-loop-i g l = IsPlainFormatter l.initial.f → HasWritten g.W.Write.write_str_gives l.initial.f (marked 1 (take l.i l.self.0.now)) l.f

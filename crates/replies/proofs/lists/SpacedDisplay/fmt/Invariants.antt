@@ -4,4 +4,4 @@ use Rattle.replies.specs.Replies.{spaced}
 use Rattle.replies.proofs.lists.SpacedDisplay.fmt.Given as goal
 
 abbrev pub invariant-loop-n : goal.invariant-loop-n
-invariant-loop-n g l = IsPlainFormatter l.initial.f → HasWritten g.W.Write.write_str_gives l.initial.f (spaced (take l.n-index l.self.numbers.now)) l.f
+invariant-loop-n g l = IsPlainFormatter l.initial.f → HasWritten g.W.Write.write_str_gives l.initial.f (spaced (take l.n-index l.self.0.now)) l.f

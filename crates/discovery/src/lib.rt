@@ -1,9 +1,6 @@
 // Discovery for a person: a field is surveyed into a book of its own, and what was found is told as text.
 #![tactic(auto)]
 
-mod desk;
 mod telling;
-mod text;
 
 pub use telling::{Detail, Request, report, report_ring, report_stored};
-pub use text::{GradeText, Refused};

@@ -3,25 +3,19 @@ ghost use Rattle.std.specs.Prelude.{◌≡◌, [], ◌∷◌, IfOk};
 ghost use Rattle.theory.specs.Lists.{among};
 ghost use Rattle.survey.specs.Walk.{join_all};
 
-use crate::desk::Desk;
-use crate::text::{GradeText, Refused};
 use book::Line;
+use desk::Desk;
 use field::{Field, RingPlan};
 use grade::{Grade, Slots};
 use std::alloc::{AllocError, Global};
-use std::fmt::Write;
+use std::fmt::{Display, Write};
 use stored::StoredSurvey;
 
 // Whether a bridge is among those found.
 fn is_found(found: &[u16], bridge: u16) -> bool
     ensures { result ≡ among found.now bridge }
 {
-    for other in found {
-        if *other == bridge {
-            return true;
-        }
-    }
-    false
+    found.contains(&bridge)
 }
 
 // The bridges found from a start: the start, and each other bridge where the far bridges of the lines first name it.
@@ -37,17 +31,17 @@ fn found_bridges(heap: Global, start: u16, fars: &[u16]) -> Result<Vec<u16>, All
     Ok(found)
 }
 
-// The far bridges of the first lines of a book.
+// The far bridges of the first lines of a book. How many there are stands beside the slots, here and below: the slots behind them are free.
 fn far_bridges<G: Grade>(
     heap: Global,
     lines: &[Line<G>],
     count: u16,
 ) -> Result<Vec<u16>, AllocError> {
-    let mut fars = Vec::new(heap);
-    for line in lines.iter().take(usize::from(count)) {
-        fars.push(line.far)?;
-    }
-    Ok(fars)
+    lines
+        .iter()
+        .take(usize::from(count))
+        .map(|line| line.far)
+        .collect(heap)
 }
 
 // Adds a word and then the first numbers of a row to a text.
@@ -60,8 +54,7 @@ fn add_numbers(text: &mut String, word: &str, numbers: &[u16], count: usize) -> 
 }
 
 // Adds a row for each of the first lines of a book.
-fn add_lines<G: GradeText>(
-    heap: Global,
+fn add_lines<G: Grade + Display>(
     text: &mut String,
     lines: &[Line<G>],
     count: usize,
@@ -70,13 +63,13 @@ fn add_lines<G: GradeText>(
         let number = i + 1;
         let near = line.near;
         let far = line.far;
-        let grade = line.grade.text(heap)?;
+        let grade = line.grade;
         writeln!(text, "line {number} from {near} to {far}, {grade}")?;
     }
     Ok(())
 }
 
-// Adds the marked bridges of a side.
+// Adds the marked bridges of a side, in the words of this text; the bench's reply has a contract on its own bytes.
 fn add_side(text: &mut String, side: &[u8]) -> anyhow::Result<()> {
     text.push_str(", side")?;
     for (i, mark) in side.iter().enumerate() {
@@ -89,8 +82,7 @@ fn add_side(text: &mut String, side: &[u8]) -> anyhow::Result<()> {
 }
 
 // Adds a row for the widest route between two bridges.
-fn add_route<G: GradeText>(
-    heap: Global,
+fn add_route<G: Grade + Display>(
     text: &mut String,
     desk: &mut Desk<G>,
     from: u16,
@@ -99,16 +91,13 @@ fn add_route<G: GradeText>(
     write!(text, "route from {from} to {to}: ")?;
     match desk.route(from, to) {
         Ok(found) => {
-            let width = found.width.text(heap)?;
+            let width = found.width;
             write!(text, "width {width}, ")?;
             add_numbers(text, "lines", desk.numbers(), found.length)?;
             add_side(text, desk.side())?;
             writeln!(text)?;
         }
-        Err(refusal) => {
-            let refused = Refused(refusal);
-            writeln!(text, "{refused}")?;
-        }
+        Err(refusal) => writeln!(text, "{refusal}")?,
     }
     Ok(())
 }
@@ -157,23 +146,20 @@ pub fn report<F: Field>(
     blank: F::Kind,
 ) -> anyhow::Result<String>
 where
-    F::Kind: GradeText,
+    F::Kind: Display,
 {
     let start = request.start;
     let mut desk = Desk::new(heap, request.bridges, request.slots, blank)?;
     let count = match desk.survey(field, start) {
         Ok(count) => count,
-        Err(refusal) => {
-            let refused = Refused(refusal);
-            return Ok(format!(in heap; "survey from {start}: {refused}\n")?);
-        }
+        Err(refusal) => return Ok(format!(in heap; "survey from {start}: {refusal}\n")?),
     };
     let mut text = String::new(heap);
     add_found(heap, &mut text, desk.lines(), start, count)?;
     if request.detail == Detail::Full {
-        add_lines(heap, &mut text, desk.lines(), usize::from(count))?;
+        add_lines(&mut text, desk.lines(), usize::from(count))?;
     }
-    add_route(heap, &mut text, &mut desk, start, request.end)?;
+    add_route(&mut text, &mut desk, start, request.end)?;
     Ok(text)
 }
 
@@ -181,15 +167,12 @@ where
 pub fn report_stored(heap: Global, bytes: &[u8], request: Request) -> anyhow::Result<String> {
     match StoredSurvey::open(bytes) {
         Ok(mut survey) => report(heap, &mut survey, request, Slots::holding(1)),
-        Err(refusal) => {
-            let refused = Refused(refusal);
-            Ok(format!(in heap; "stored survey: {refused}\n")?)
-        }
+        Err(refusal) => Ok(format!(in heap; "stored survey: {refusal}\n")?),
     }
 }
 
 // The same of a ring plan, or why there is none.
-pub fn report_ring<G: GradeText>(
+pub fn report_ring<G: Grade + Display>(
     heap: Global,
     size: u16,
     grade: G,
@@ -197,9 +180,6 @@ pub fn report_ring<G: GradeText>(
 ) -> anyhow::Result<String> {
     match RingPlan::new(size, grade) {
         Ok(mut ring) => report(heap, &mut ring, request, grade),
-        Err(refusal) => {
-            let refused = Refused(refusal);
-            Ok(format!(in heap; "ring plan: {refused}\n")?)
-        }
+        Err(refusal) => Ok(format!(in heap; "ring plan: {refusal}\n")?),
     }
 }

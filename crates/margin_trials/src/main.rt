@@ -3,42 +3,19 @@
 // narrower past them. Prints how many were tried and how many went wrong.
 #![tactic(auto)]
 
-use book::{Head, Line};
+use book::Line;
+use desk::Desk;
+use dice::Dice;
 use grade::{Refusal, Slots};
-use margins::Margin;
+use std::alloc::Global;
 
 const BRIDGES: u16 = 7;
+
+const LINES: u16 = 20;
 
 const NETWORKS: u32 = 2_000;
 
 const MOST_SLOTS: u32 = 1_048_576;
-
-#[derive(Drop)]
-struct Network {
-    head: Head,
-    first: [u16; 7],
-    lines: [Line<Slots>; 20],
-    work: [u16; 76],
-    numbers: [u16; 7],
-    again: [u16; 7],
-    side: [u8; 7],
-    margins: [Margin<Slots>; 20],
-}
-
-// Pseudo-random numbers, the same in every run.
-#[derive(Clone, Copy)]
-struct Dice {
-    state: u32,
-}
-
-impl Dice {
-    // A number of 1 to `limit`, which is at least 1.
-    fn roll(&mut self, limit: u16) -> u16 {
-        self.state = self.state.wrapping_mul(1_103_515_245).wrapping_add(12_345);
-        let high = (self.state >> 16) as u16;
-        (high % limit.max(1)).saturating_add(1)
-    }
-}
 
 // How many regrades left the route widest as they should, how many beat it as they should, and how many went wrong.
 #[derive(Clone, Copy)]
@@ -66,188 +43,124 @@ impl Tally {
     }
 }
 
-fn empty_network() -> Result<Network, Refusal> {
-    let line = Line {
-        near: 0,
-        far: 0,
-        next: 0,
-        grade: Slots::new(1)?,
-    };
-    let none = Margin {
-        low: None,
-        high: None,
-    };
-    let mut network = Network {
-        head: Head {
-            bridges: 0,
-            slots: 0,
-            standing: 0,
-            free: 0,
-        },
-        first: [0; 7],
-        lines: [line; 20],
-        work: [0; 76],
-        numbers: [0; 7],
-        again: [0; 7],
-        side: [0; 7],
-        margins: [none; 20],
-    };
-    planner::open(
-        &mut network.head,
-        &mut network.first,
-        &mut network.lines,
-        BRIDGES,
-    )?;
-    Ok(network)
+// Random lines of few slots, so that many grades rank alike.
+fn lay_lines(network: &mut Desk<Slots>, dice: &mut Dice) -> Result<(), Refusal> {
+    for _ in 0..dice.up_to(60) {
+        let grade = Slots::new(u32::from(dice.up_to(9)))?;
+        let (near, far) = (dice.up_to(BRIDGES), dice.up_to(BRIDGES));
+        let _ = network.lay(near, far, grade);
+    }
+    Ok(())
 }
 
-impl Network {
-    // Random lines of few slots, so that many grades rank alike.
-    fn lay_lines(&mut self, dice: &mut Dice) -> Result<(), Refusal> {
-        for _ in 0..dice.roll(60) {
-            let grade = Slots::new(u32::from(dice.roll(9)))?;
-            let _ = lines::lay(
-                &mut self.head,
-                &mut self.first,
-                &mut self.lines,
-                &mut self.work,
-                dice.roll(BRIDGES),
-                dice.roll(BRIDGES),
-                grade,
-            );
-        }
-        Ok(())
-    }
-
-    // The slots of the line of a number.
-    fn slots(&self, number: u16) -> u32 {
-        let at = usize::from(number.saturating_sub(1));
-        if at < 20 {
-            self.lines[at].grade.count()
-        } else {
-            0
-        }
-    }
-
-    // The lowest slots of the route's lines.
-    fn own_width(&self, length: usize) -> u32 {
-        let mut lowest = MOST_SLOTS;
-        for at in 0..length.min(7) {
-            lowest = lowest.min(self.slots(self.numbers[at]));
-        }
-        lowest
-    }
-
-    // The best width now; the route's line numbers stay.
-    fn best_width(&mut self, start: u16, end: u16) -> Result<u32, Refusal> {
-        let found = route::route(
-            &self.head,
-            &self.first,
-            &self.lines,
-            &mut self.work,
-            start,
-            end,
-            &mut self.again,
-            &mut self.side,
-        )?;
-        Ok(found.width.count())
-    }
-
-    fn regrade(&mut self, near: u16, far: u16, slots: u32) -> Result<u16, Refusal> {
-        lines::regrade(
-            &self.head,
-            &self.first,
-            &mut self.lines,
-            &mut self.work,
-            near,
-            far,
-            Slots::new(slots)?,
-        )
+// The slots of the line of a number, 0 where there is none: then no route is as wide.
+fn slots(network: &Desk<Slots>, number: u16) -> u32 {
+    match network.lines().get(usize::from(number).saturating_sub(1)) {
+        Some(line) => line.grade.count(),
+        None => 0,
     }
 }
 
-// A route that was told: its two ends and how many lines it has.
-#[derive(Clone, Copy)]
+// A route that was told: its two ends and its line numbers.
+#[derive(Drop)]
 struct Told {
     start: u16,
     end: u16,
-    length: usize,
+    numbers: Vec<u16>,
 }
 
-impl Network {
-    fn find_route(&mut self, start: u16, end: u16) -> Result<Told, Refusal> {
-        let found = route::route(
-            &self.head,
-            &self.first,
-            &self.lines,
-            &mut self.work,
-            start,
-            end,
-            &mut self.numbers,
-            &mut self.side,
-        )?;
-        let length = found.length.min(7);
-        let numbers = self.numbers;
-        margins::margins(
-            &self.head,
-            &self.first,
-            &self.lines,
-            &mut self.work,
-            &numbers[0..length],
-            &mut self.margins,
-        )?;
-        Ok(Told { start, end, length })
+// A route between two bridges, of which the margins are asked.
+fn find_route(
+    heap: Global,
+    network: &mut Desk<Slots>,
+    start: u16,
+    end: u16,
+) -> anyhow::Result<Option<Told>> {
+    let Ok(found) = network.route(start, end) else {
+        return Ok(None);
+    };
+    if network.margins(found.length).is_err() {
+        return Ok(None);
     }
-
-    // Whether the route is still widest with one line at other slots; the line is put back.
-    fn stays(&mut self, told: Told, line: Line<Slots>, slots: u32) -> Result<bool, Refusal> {
-        let _ = self.regrade(line.near, line.far, slots)?;
-        let own = self.own_width(told.length);
-        let best = self.best_width(told.start, told.end);
-        let _ = self.regrade(line.near, line.far, line.grade.count())?;
-        Ok(own == best?)
+    let mut numbers = Vec::new(heap);
+    for number in network.numbers().iter().take(found.length) {
+        numbers.push(*number)?;
     }
+    Ok(Some(Told {
+        start,
+        end,
+        numbers,
+    }))
+}
 
-    fn try_low(&mut self, told: Told, line: Line<Slots>, low: Option<Slots>, tally: &mut Tally) {
-        let Some(end) = low else {
-            tally.count(true, self.stays(told, line, 1));
-            return;
-        };
-        let slots = end.count();
-        tally.count(true, self.stays(told, line, slots));
-        if slots > 1 {
-            tally.count(false, self.stays(told, line, slots - 1));
+// The lowest slots of the route's lines.
+fn own_width(network: &Desk<Slots>, told: &Told) -> u32 {
+    let mut lowest = MOST_SLOTS;
+    for number in &told.numbers {
+        lowest = lowest.min(slots(network, *number));
+    }
+    lowest
+}
+
+// Whether the route is still widest with one line at other slots; the line is put back.
+fn stays(
+    network: &mut Desk<Slots>,
+    told: &Told,
+    line: Line<Slots>,
+    slots: u32,
+) -> Result<bool, Refusal> {
+    let _ = network.regrade(line.near, line.far, Slots::new(slots)?)?;
+    let own = own_width(network, told);
+    let best = network.route(told.start, told.end);
+    let _ = network.regrade(line.near, line.far, line.grade)?;
+    Ok(own == best?.width.count())
+}
+
+// One end of a margin: the route stays widest there, and no more one slot on towards the last slots that a line may have.
+// With no end told it stays so at those.
+fn try_end(
+    network: &mut Desk<Slots>,
+    told: &Told,
+    line: Line<Slots>,
+    end: Option<Slots>,
+    last: u32,
+    tally: &mut Tally,
+) {
+    let slots = match end {
+        Some(grade) => grade.count(),
+        None => last,
+    };
+    tally.count(true, stays(network, told, line, slots));
+    if slots != last {
+        let past = if slots < last { slots + 1 } else { slots - 1 };
+        tally.count(false, stays(network, told, line, past));
+    }
+}
+
+// Every standing line of the network, at both ends.
+fn try_lines(
+    heap: Global,
+    network: &mut Desk<Slots>,
+    told: &Told,
+    tally: &mut Tally,
+) -> anyhow::Result<()> {
+    tally.routes = tally.routes.saturating_add(1);
+    let mut tried = Vec::new(heap);
+    for (line, margin) in network.lines().iter().zip(network.told_margins()) {
+        if line.stands() {
+            tried.push((*line, *margin))?;
         }
     }
-
-    fn try_high(&mut self, told: Told, line: Line<Slots>, high: Option<Slots>, tally: &mut Tally) {
-        let Some(end) = high else {
-            tally.count(true, self.stays(told, line, MOST_SLOTS));
-            return;
-        };
-        let slots = end.count();
-        tally.count(true, self.stays(told, line, slots));
-        if slots < MOST_SLOTS {
-            tally.count(false, self.stays(told, line, slots + 1));
-        }
+    for (line, margin) in &tried {
+        try_end(network, told, *line, margin.low, 1, tally);
+        try_end(network, told, *line, margin.high, MOST_SLOTS, tally);
     }
-
-    // Every standing line of the network, at both ends.
-    fn try_lines(&mut self, told: Told, tally: &mut Tally) {
-        tally.routes = tally.routes.saturating_add(1);
-        for at in 0..20 {
-            let line = self.lines[at];
-            let margin = self.margins[at];
-            if line.near != 0 {
-                self.try_low(told, line, margin.low, tally);
-                self.try_high(told, line, margin.high, tally);
-            }
-        }
-    }
+    Ok(())
 }
 
 fn run(rt: &HostRuntime) -> anyhow::Result<()> {
-    let mut dice = Dice { state: 7 };
+    let heap = rt.alloc();
+    let mut dice = Dice::new(7);
     let mut tally = Tally {
         routes: 0,
         within: 0,
@@ -255,13 +168,15 @@ fn run(rt: &HostRuntime) -> anyhow::Result<()> {
         wrong: 0,
     };
     for _ in 0..NETWORKS {
-        let Ok(mut network) = empty_network() else {
+        let mut network = Desk::new(heap, BRIDGES, LINES, Slots::holding(1))?;
+        if network.open().is_err() {
             println!(rt; "no book")?;
             return Ok(());
-        };
-        let _ = network.lay_lines(&mut dice);
-        if let Ok(told) = network.find_route(dice.roll(BRIDGES), dice.roll(BRIDGES)) {
-            network.try_lines(told, &mut tally);
+        }
+        let _ = lay_lines(&mut network, &mut dice);
+        let (start, end) = (dice.up_to(BRIDGES), dice.up_to(BRIDGES));
+        if let Some(told) = find_route(heap, &mut network, start, end)? {
+            try_lines(heap, &mut network, &told, &mut tally)?;
         }
     }
     let (routes, within, past, wrong) = (tally.routes, tally.within, tally.past, tally.wrong);

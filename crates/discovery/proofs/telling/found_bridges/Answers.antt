@@ -21,8 +21,3 @@ loop-far-preserved c =
       | then-not-is_found+in_ok-push w ↦ ap vec_items w.found-is ∙ w.in_ok-push.ensures.items ∙ sym (cond-false (among found far) found (found ++ (far ∷ [])) (sym test ∙ w.if-not-is_found.true)) ∙ rest
       | else-not-is_found w ↦ ap vec_items w.found-is ∙ sym (cond-true (among found far) found (found ++ (far ∷ [])) (sym test ∙ w.if-not-is_found.false)) ∙ rest
     ]
-
-pub returns : goal.returns
-returns c =
-    let fars = c.args.fars.now in
-    c.loop-far.invariant ∙ ap (join_all (c.args.start ∷ [])) (take_all c.loop-far.far-index fars c.loop-far-test.false)

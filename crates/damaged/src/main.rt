@@ -36,8 +36,8 @@ fn changed_byte(heap: Global, place: usize) -> anyhow::Result<String> {
     let mut bytes = SURVEY;
     let mut text = format!(in heap; "byte {place}:")?;
     for value in 0..=255u8 {
-        if place < bytes.len() {
-            bytes[place] = value;
+        if let Some(byte) = bytes.get_mut(place) {
+            *byte = value;
         }
         add_verdict(&mut text, &bytes)?;
     }

@@ -6,7 +6,7 @@
 #![tactic(auto)]
 
 use anyhow::anyhow;
-use discovery::{Detail, Refused, Request, report_ring, report_stored};
+use discovery::{Detail, Request, report_ring, report_stored};
 use grade::Slots;
 use std::alloc::Global;
 use std::io::Read;
@@ -29,10 +29,7 @@ fn request(start: &str, end: &str) -> anyhow::Result<Request> {
 fn tell_ring(heap: Global, k: &str, slots: &str, asked: Request) -> anyhow::Result<String> {
     match Slots::new(slots.parse::<u32>()?) {
         Ok(grade) => report_ring(heap, k.parse::<u16>()?, grade, asked),
-        Err(refusal) => {
-            let refused = Refused(refusal);
-            Ok(format!(in heap; "slots: {refused}\n")?)
-        }
+        Err(refusal) => Ok(format!(in heap; "slots: {refusal}\n")?),
     }
 }
 

@@ -3,12 +3,14 @@
 // The gate runs it without words and compares what it found; with the word `figures` it prints times as well.
 #![tactic(auto)]
 
+ghost use Rattle.std.specs.Prelude.{◌≤◌};
+
 use desk::Desk;
 use dice::Dice;
 use grade::{Refusal, Slots};
 use margins::Margin;
 use std::env;
-use std::time::Instant;
+use std::time::{Duration, Instant};
 
 const BRIDGES: u16 = 256;
 
@@ -88,6 +90,15 @@ fn ask_margins(network: &mut Desk<Slots>, length: usize) -> u64 {
     told_ends
 }
 
+// How long each of so many questions took.
+fn tell_each(rt: &HostRuntime, span: Duration, questions: u32, what: &str) -> anyhow::Result<()>
+    requires { 1 ≤ questions }
+{
+    let each = span.as_nanos() / u128::from(questions);
+    println!(rt; "{each} ns for each {what}")?;
+    Ok(())
+}
+
 fn run(rt: &HostRuntime) -> anyhow::Result<()> {
     let figures = env::args(rt)?.count() > 1;
     let mut dice = Dice::new(1);
@@ -107,14 +118,12 @@ fn run(rt: &HostRuntime) -> anyhow::Result<()> {
     let (routes, lines) = (tally.routes, tally.lines);
     println!(rt; "{routes} routes of {lines} lines")?;
     if figures {
-        let each = span.as_nanos() / u128::from(QUESTIONS);
-        println!(rt; "{each} ns for each route")?;
+        tell_each(rt, span, QUESTIONS, "route")?;
     }
     time_margins(rt, &mut network, &mut dice, figures)
 }
 
-// Asks for the margins of routes between random bridges. Routes and turns are timed alike, each with its own sums and words: one function
-// for all would take a closure and four texts.
+// Asks for the margins of routes between random bridges.
 fn time_margins(
     rt: &HostRuntime,
     network: &mut Desk<Slots>,
@@ -134,8 +143,7 @@ fn time_margins(
     let span = start.elapsed(rt)?;
     println!(rt; "{told_ends} ends of margins on routes of {lines} lines")?;
     if figures {
-        let each = span.as_nanos() / u128::from(MARGIN_QUESTIONS);
-        println!(rt; "{each} ns for each margins")?;
+        tell_each(rt, span, MARGIN_QUESTIONS, "margins")?;
     }
     time_turns(rt, network, dice, figures)
 }
@@ -160,8 +168,7 @@ fn time_turns(
     let span = start.elapsed(rt)?;
     println!(rt; "{lines} lines to turn on routes of {bridges} bridges")?;
     if figures {
-        let each = span.as_nanos() / u128::from(TURN_QUESTIONS);
-        println!(rt; "{each} ns for each turn")?;
+        tell_each(rt, span, TURN_QUESTIONS, "turn")?;
     }
     Ok(())
 }

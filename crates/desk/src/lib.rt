@@ -34,7 +34,7 @@ pub struct Desk<G> {
 }
 
 impl<G: Grade> Desk<G> {
-    ghost use Rattle.desk.specs.Desks.{tables, room, surveyed, IsFor};
+    ghost use Rattle.desk.specs.Desks.{tables, room, fixed, told_last, beside_route, beside_margins, surveyed, IsFor};
 
     // Memory for `bridges` bridges and `slots` lines. Every line slot holds `blank` until a line is laid in it.
     pub fn new(heap: Global, bridges: u16, slots: u16, blank: G) -> Result<Desk<G>, AllocError>
@@ -62,7 +62,8 @@ impl<G: Grade> Desk<G> {
     // Opens the book, with as many bridges as there is memory for.
     pub fn open(&mut self) -> Result<(), Refusal>
         ensures told { (told (λ _. tt) result, tables self.new) ≡ opening self.old.bridges (tables self.old) }
-        ensures room { room self.new ≡ room self.old }
+        ensures fixed { fixed self.new ≡ fixed self.old }
+        ensures answers { told_last self.new ≡ told_last self.old }
     {
         planner::open(
             &mut self.head,
@@ -76,6 +77,8 @@ impl<G: Grade> Desk<G> {
     pub fn survey<F: Field<Kind = G>>(&mut self, field: &mut F, start: u16) -> Result<u16, Refusal>
         ensures told { (told (λ count. count) result, tables self.new) ≡ surveyed (F.tells field.old) (opening self.old.bridges (tables self.old)) (room self.old) start }
         ensures same { F.tells field.new ≡ F.tells field.old }
+        ensures fixed { fixed self.new ≡ fixed self.old }
+        ensures answers { told_last self.new ≡ told_last self.old }
     {
         self.open()?;
         survey::survey(
@@ -89,7 +92,9 @@ impl<G: Grade> Desk<G> {
     }
 
     pub fn lay(&mut self, near: u16, far: u16, grade: G) -> Result<u16, Refusal>
-        ensures { (told (λ n. n) result, tables self.new) ≡ laying (tables self.old) (room self.old) near far grade }
+        ensures told { (told (λ n. n) result, tables self.new) ≡ laying (tables self.old) (room self.old) near far grade }
+        ensures fixed { fixed self.new ≡ fixed self.old }
+        ensures answers { told_last self.new ≡ told_last self.old }
     {
         lines::lay(
             &mut self.head,
@@ -103,7 +108,9 @@ impl<G: Grade> Desk<G> {
     }
 
     pub fn regrade(&mut self, near: u16, far: u16, grade: G) -> Result<u16, Refusal>
-        ensures { (told (λ n. n) result, tables self.new) ≡ regrading (tables self.old) (room self.old) near far grade }
+        ensures told { (told (λ n. n) result, tables self.new) ≡ regrading (tables self.old) (room self.old) near far grade }
+        ensures fixed { fixed self.new ≡ fixed self.old }
+        ensures answers { told_last self.new ≡ told_last self.old }
     {
         lines::regrade(
             &self.head,
@@ -120,6 +127,8 @@ impl<G: Grade> Desk<G> {
     pub fn route(&mut self, from: u16, to: u16) -> Result<Found<G>, Refusal>
         ensures told { (told (λ f. f) result, (self.new.numbers.items, self.new.side.items)) ≡ routing G.le (tables self.old) (room self.old) from to self.old.numbers.items self.old.side.items }
         ensures book { tables self.new ≡ tables self.old }
+        ensures fixed { fixed self.new ≡ fixed self.old }
+        ensures others { beside_route self.new ≡ beside_route self.old }
     {
         route::route(
             &self.head,
@@ -138,6 +147,8 @@ impl<G: Grade> Desk<G> {
     pub fn margins(&mut self, length: usize) -> Result<(), Refusal>
         ensures told { (told (λ _. tt) result, self.new.margins.items) ≡ margins_asked G.le (tables self.old) (room self.old) (take length self.old.numbers.items) self.old.margins.items }
         ensures book { tables self.new ≡ tables self.old }
+        ensures fixed { fixed self.new ≡ fixed self.old }
+        ensures others { beside_margins self.new ≡ beside_margins self.old }
     {
         let length = length.min(self.numbers.len());
         margins::margins(
@@ -187,12 +198,14 @@ impl<G: Grade> Desk<G> {
 }
 
 impl Desk<Slots> {
-    ghost use Rattle.desk.specs.Desks.{tables, room};
+    ghost use Rattle.desk.specs.Desks.{tables, room, fixed, told_last, beside_turn};
 
     // Asks for the lines to turn for a wider route.
     pub fn turn(&mut self, from: u16, to: u16) -> Result<Turned, Refusal>
         ensures told { (told parts result, (self.new.numbers.items, self.new.turned.items)) ≡ turning_round slots_of (tables self.old) (room self.old) from to self.old.numbers.items self.old.turned.items }
         ensures book { tables self.new ≡ tables self.old }
+        ensures fixed { fixed self.new ≡ fixed self.old }
+        ensures others { beside_turn self.new ≡ beside_turn self.old }
     {
         turn::turn(
             &self.head,
@@ -210,6 +223,8 @@ impl Desk<Slots> {
     pub fn load(&mut self) -> Result<u32, Refusal>
         ensures told { told (λ s. s) result ≡ loading slots_of (tables self.old) (room self.old) }
         ensures book { tables self.new ≡ tables self.old }
+        ensures fixed { fixed self.new ≡ fixed self.old }
+        ensures answers { told_last self.new ≡ told_last self.old }
     {
         turn::load(&self.head, &self.first, &self.lines, &mut self.work)
     }

@@ -1,5 +1,5 @@
 // What is told of each line slot when margins are.
-ghost use Rattle.std.specs.Prelude.{◌≡◌, ℕ, ◌<◌, length, IfOk};
+ghost use Rattle.std.specs.Prelude.{◌≡◌, ℕ, ◌<◌, length};
 ghost use Rattle.theory.specs.Arcs.{numbered as line_of};
 ghost use Rattle.standing.specs.Standing.{standing_from};
 ghost use Rattle.answers.specs.Answers.{is_there, slots_at, row as told_row, rows as told_rows};
@@ -9,7 +9,6 @@ use grade::Slots;
 use margins::Margin;
 use replies::LineMargin;
 use search::record_at;
-use std::alloc::{AllocError, Global};
 
 // Whether a line of this number stands.
 fn stands(lines: &[Line<Slots>], number: u16) -> bool
@@ -38,20 +37,18 @@ fn row(stands: bool, margin: Margin<Slots>) -> Option<LineMargin>
     })
 }
 
-// What is told of every slot.
-pub fn rows(
-    heap: Global,
+// Writes what is told of every slot. The table is the caller's, so that only the reply's text takes memory.
+pub fn write_rows(
     lines: &[Line<Slots>],
     margins: &[Margin<Slots>],
-) -> Result<Vec<Option<LineMargin>>, AllocError>
-    requires { length margins.now < 65535 }
-    ensures { IfOk result (λ v. v.items ≡ told_rows (λ k. is_there (line_of (standing_from 1 lines.now) k)) 1 margins.now) }
+    table: &mut [Option<LineMargin>],
+)
+    requires { (length table.old ≡ length margins.now) × (length table.old < 65535) }
+    ensures { table.new ≡ told_rows (λ k. is_there (line_of (standing_from 1 lines.now) k)) 1 margins.now }
 {
-    let mut rows = Vec::new(heap);
-    for (i, margin) in margins.iter().enumerate() {
+    for (i, told) in table.iter_mut().enumerate() {
         // `as` cuts nothing: there are fewer than 65,535 rows.
         let number = (i + 1) as u16;
-        rows.push(row(stands(lines, number), *margin))?;
+        *told = row(stands(lines, number), margins[i]);
     }
-    Ok(rows)
 }

@@ -23,19 +23,26 @@ pub fn label_of<G: Grade>(lines: &[Line<G>], number: u16) -> Option<Label<G>>
     ensures { result ≡ label_of lines.now number }
 {
     let place = usize::from(number).checked_sub(1)?;
-    match lines.get(place) {
-        Some(line) => Some(Label::Limited(line.grade)),
-        None => Some(Label::Unlimited),
+    if place < lines.len() {
+        Some(Label::Limited(lines[place].grade))
+    } else {
+        Some(Label::Unlimited)
     }
 }
 
-// Whether a label is at most another. No derived order: two grades may rank alike and still differ.
+// Whether a label is at most another. No derived order: two grades may rank alike and still differ. The first label is looked at first, and not
+// the pair of both: every search asks this at each step, and so the loop of `best` takes fewer instructions.
 pub fn label_at_most<G: Grade>(a: Label<G>, b: Label<G>) -> bool
     ensures { result ≡ label_le G.le a b }
 {
-    match (a, b) {
-        (_, Label::Unlimited) => true,
-        (Label::Unlimited, Label::Limited(_)) => false,
-        (Label::Limited(x), Label::Limited(y)) => x.at_most(y),
+    match a {
+        Label::Unlimited => match b {
+            Label::Unlimited => true,
+            Label::Limited(_) => false,
+        },
+        Label::Limited(x) => match b {
+            Label::Unlimited => true,
+            Label::Limited(y) => x.at_most(y),
+        },
     }
 }

@@ -3,24 +3,142 @@
 // The gate runs it without words and compares what it found; with the word `figures` it prints times as well.
 #![tactic(auto)]
 
-ghost use Rattle.std.specs.Prelude.{◌≤◌};
+ghost use Rattle.std.specs.Prelude.{◌≡◌, ◌≤◌, min, take};
+ghost use Rattle.grade.specs.Told.{told};
+ghost use Rattle.grade.specs.Kinds.{slots_le, slots_of};
+ghost use Rattle.book.specs.Memory.{memory};
+ghost use Rattle.book.specs.Opening.{opening};
+ghost use Rattle.lines.specs.Calls.{laying};
+ghost use Rattle.route.specs.Routing.{routing};
+ghost use Rattle.margins.specs.Published.{margins_asked};
+ghost use Rattle.turn.specs.Outcomes.{parts, turning_round};
+ghost use Rattle.turn.specs.Loads.{loading};
 
-use desk::Desk;
+use book::{Head, Line};
 use dice::Dice;
 use grade::{Refusal, Slots};
 use margins::Margin;
+use route::Found;
 use std::env;
 use std::time::{Duration, Instant};
+use turn::Turned;
 
 const BRIDGES: u16 = 256;
-
-const LINES: u16 = 1_024;
 
 const QUESTIONS: u32 = 2_000;
 
 const MARGIN_QUESTIONS: u32 = 100;
 
 const TURN_QUESTIONS: u32 = 200;
+
+// The tables of a book of 256 bridges and 1,024 line slots, and the memory that its calls are lent. Arrays and no `Desk`, here and in the two
+// programs of trials: none of them takes heap for its book.
+#[derive(Drop)]
+struct Network {
+    head: Head,
+    first: [u16; 256],
+    lines: [Line<Slots>; 1024],
+    work: [u16; 3072],
+    numbers: [u16; 256],
+    turned: [u16; 256],
+    side: [u8; 256],
+    margins: [Margin<Slots>; 1024],
+}
+
+impl Network {
+    fn new() -> Network {
+        let none = Margin {
+            low: None,
+            high: None,
+        };
+        Network {
+            head: Head::default(),
+            first: [0; 256],
+            lines: [Line::free(Slots::holding(1), 0); 1024],
+            work: [0; 3072],
+            numbers: [0; 256],
+            turned: [0; 256],
+            side: [0; 256],
+            margins: [none; 1024],
+        }
+    }
+
+    fn open(&mut self) -> Result<(), Refusal>
+        ensures { (told (λ _. tt) result, memory self.new.head self.new.first self.new.lines) ≡ opening 256 (memory self.old.head self.old.first self.old.lines) }
+    {
+        planner::open(&mut self.head, &mut self.first, &mut self.lines, BRIDGES)
+    }
+
+    fn lay(&mut self, near: u16, far: u16, grade: Slots) -> Result<u16, Refusal>
+        ensures { (told (λ n. n) result, memory self.new.head self.new.first self.new.lines) ≡ laying (memory self.old.head self.old.first self.old.lines) 3072 near far grade }
+    {
+        lines::lay(
+            &mut self.head,
+            &mut self.first,
+            &mut self.lines,
+            &mut self.work,
+            near,
+            far,
+            grade,
+        )
+    }
+
+    fn route(&mut self, from: u16, to: u16) -> Result<Found<Slots>, Refusal>
+        ensures told { (told (λ f. f) result, (self.new.numbers, self.new.side)) ≡ routing slots_le (memory self.old.head self.old.first self.old.lines) 3072 from to self.old.numbers self.old.side }
+        ensures book { memory self.new.head self.new.first self.new.lines ≡ memory self.old.head self.old.first self.old.lines }
+    {
+        route::route(
+            &self.head,
+            &self.first,
+            &self.lines,
+            &mut self.work,
+            from,
+            to,
+            &mut self.numbers,
+            &mut self.side,
+        )
+    }
+
+    // The margins of all lines for the route that was told last.
+    fn margins(&mut self, length: usize) -> Result<(), Refusal>
+        ensures told { (told (λ _. tt) result, self.new.margins) ≡ margins_asked slots_le (memory self.old.head self.old.first self.old.lines) 3072 (take (min length 256) self.old.numbers) self.old.margins }
+        ensures book { memory self.new.head self.new.first self.new.lines ≡ memory self.old.head self.old.first self.old.lines }
+    {
+        margins::margins(
+            &self.head,
+            &self.first,
+            &self.lines,
+            &mut self.work,
+            &self.numbers[..length.min(256)],
+            &mut self.margins,
+        )
+    }
+
+    // The route with lines turned round.
+    fn turn(&mut self, from: u16, to: u16) -> Result<Turned, Refusal>
+        ensures told { (told parts result, (self.new.numbers, self.new.turned)) ≡ turning_round slots_of (memory self.old.head self.old.first self.old.lines) 3072 from to self.old.numbers self.old.turned }
+        ensures book { memory self.new.head self.new.first self.new.lines ≡ memory self.old.head self.old.first self.old.lines }
+    {
+        turn::turn(
+            &self.head,
+            &self.first,
+            &self.lines,
+            &mut self.work,
+            from,
+            to,
+            &mut self.numbers,
+            &mut self.turned,
+        )
+    }
+
+    // The slots of all lines.
+    fn load(&mut self) -> Result<u32, Refusal>
+        ensures told { told (λ s. s) result ≡ loading slots_of (memory self.old.head self.old.first self.old.lines) 3072 }
+        ensures book { memory self.new.head self.new.first self.new.lines ≡ memory self.old.head self.old.first self.old.lines }
+    {
+        turn::load(&self.head, &self.first, &self.lines, &mut self.work)
+    }
+}
 
 fn bridge(dice: &mut Dice) -> u16 {
     dice.up_to(BRIDGES)
@@ -38,7 +156,7 @@ struct Tally {
 }
 
 // The ring, one line each way between neighbours.
-fn lay_ring(network: &mut Desk<Slots>, dice: &mut Dice) -> Result<(), Refusal> {
+fn lay_ring(network: &mut Network, dice: &mut Dice) -> Result<(), Refusal> {
     for b in 1..=BRIDGES {
         let next = b % BRIDGES + 1;
         let _ = network.lay(b, next, slots(dice)?)?;
@@ -48,7 +166,7 @@ fn lay_ring(network: &mut Desk<Slots>, dice: &mut Dice) -> Result<(), Refusal> {
 }
 
 // Chords between random bridges, until no slot is free.
-fn lay_chords(network: &mut Desk<Slots>, dice: &mut Dice) -> Result<(), Refusal> {
+fn lay_chords(network: &mut Network, dice: &mut Dice) -> Result<(), Refusal> {
     for _ in 0..100_000 {
         let (near, far) = (bridge(dice), bridge(dice));
         if network.lay(near, far, slots(dice)?) == Err(Refusal::NoFreeSlot) {
@@ -59,7 +177,7 @@ fn lay_chords(network: &mut Desk<Slots>, dice: &mut Dice) -> Result<(), Refusal>
 }
 
 // The routes between random bridges. Counts are added by `as u64`, here and below: there is no `From` of a usize.
-fn ask(network: &mut Desk<Slots>, dice: &mut Dice) -> Tally {
+fn ask(network: &mut Network, dice: &mut Dice) -> Tally {
     let mut tally = Tally {
         routes: 0,
         lines: 0,
@@ -80,10 +198,10 @@ fn ends(margin: &Margin<Slots>) -> u64 {
 }
 
 // How many ends the margins of the route that was told last have.
-fn ask_margins(network: &mut Desk<Slots>, length: usize) -> u64 {
+fn ask_margins(network: &mut Network, length: usize) -> u64 {
     let mut told_ends = 0u64;
     if network.margins(length).is_ok() {
-        for margin in network.told_margins() {
+        for margin in &network.margins {
             told_ends = told_ends.saturating_add(ends(margin));
         }
     }
@@ -102,14 +220,14 @@ fn tell_each(rt: &HostRuntime, span: Duration, questions: u32, what: &str) -> an
 fn run(rt: &HostRuntime) -> anyhow::Result<()> {
     let figures = env::args(rt)?.count() > 1;
     let mut dice = Dice::new(1);
-    let mut network = Desk::new(rt.alloc(), BRIDGES, LINES, Slots::holding(1))?;
+    let mut network = Network::new();
     if network.open().is_err() {
         println!(rt; "no book")?;
         return Ok(());
     }
     let _ = lay_ring(&mut network, &mut dice);
     let _ = lay_chords(&mut network, &mut dice);
-    let standing = network.lines().iter().filter(|line| line.stands()).count();
+    let standing = network.lines.iter().filter(|line| line.stands()).count();
     let slots = network.load().unwrap_or(0);
     println!(rt; "{standing} lines of {slots} slots")?;
     let start = Instant::now(rt)?;
@@ -126,7 +244,7 @@ fn run(rt: &HostRuntime) -> anyhow::Result<()> {
 // Asks for the margins of routes between random bridges.
 fn time_margins(
     rt: &HostRuntime,
-    network: &mut Desk<Slots>,
+    network: &mut Network,
     dice: &mut Dice,
     figures: bool,
 ) -> anyhow::Result<()> {
@@ -151,7 +269,7 @@ fn time_margins(
 // Asks for the lines to turn between random bridges.
 fn time_turns(
     rt: &HostRuntime,
-    network: &mut Desk<Slots>,
+    network: &mut Network,
     dice: &mut Dice,
     figures: bool,
 ) -> anyhow::Result<()> {

@@ -3,21 +3,85 @@
 // how many answers were wrong.
 #![tactic(auto)]
 
-ghost use Rattle.std.specs.Prelude.{◌<◌};
+ghost use Rattle.std.specs.Prelude.{◌≡◌, ◌<◌};
+ghost use Rattle.grade.specs.Told.{told};
+ghost use Rattle.grade.specs.Kinds.{slots_of};
+ghost use Rattle.book.specs.Memory.{memory};
+ghost use Rattle.book.specs.Opening.{opening};
+ghost use Rattle.lines.specs.Calls.{laying};
+ghost use Rattle.turn.specs.Outcomes.{parts, turning_round};
 
-use desk::Desk;
+use book::{Head, Line};
 use dice::Dice;
 use grade::{Refusal, Slots};
 use turn::Turned;
 
 const BRIDGES: u16 = 5;
 
-const LINES: u16 = 8;
-
 const NETWORKS: u32 = 150;
 
 // All sets of eight lines, as bits.
 const SETS: u16 = 256;
+
+// The tables of a book of five bridges and eight line slots, and the memory that its calls are lent: arrays, so that no heap is taken.
+#[derive(Drop)]
+struct Network {
+    head: Head,
+    first: [u16; 5],
+    lines: [Line<Slots>; 8],
+    work: [u16; 48],
+    bridges: [u16; 5],
+    turned: [u16; 5],
+}
+
+impl Network {
+    fn new() -> Network {
+        Network {
+            head: Head::default(),
+            first: [0; 5],
+            lines: [Line::free(Slots::holding(1), 0); 8],
+            work: [0; 48],
+            bridges: [0; 5],
+            turned: [0; 5],
+        }
+    }
+
+    fn open(&mut self) -> Result<(), Refusal>
+        ensures { (told (λ _. tt) result, memory self.new.head self.new.first self.new.lines) ≡ opening 5 (memory self.old.head self.old.first self.old.lines) }
+    {
+        planner::open(&mut self.head, &mut self.first, &mut self.lines, BRIDGES)
+    }
+
+    fn lay(&mut self, near: u16, far: u16, grade: Slots) -> Result<u16, Refusal>
+        ensures { (told (λ n. n) result, memory self.new.head self.new.first self.new.lines) ≡ laying (memory self.old.head self.old.first self.old.lines) 48 near far grade }
+    {
+        lines::lay(
+            &mut self.head,
+            &mut self.first,
+            &mut self.lines,
+            &mut self.work,
+            near,
+            far,
+            grade,
+        )
+    }
+
+    fn turn(&mut self, from: u16, to: u16) -> Result<Turned, Refusal>
+        ensures told { (told parts result, (self.new.bridges, self.new.turned)) ≡ turning_round slots_of (memory self.old.head self.old.first self.old.lines) 48 from to self.old.bridges self.old.turned }
+        ensures book { memory self.new.head self.new.first self.new.lines ≡ memory self.old.head self.old.first self.old.lines }
+    {
+        turn::turn(
+            &self.head,
+            &self.first,
+            &self.lines,
+            &mut self.work,
+            from,
+            to,
+            &mut self.bridges,
+            &mut self.turned,
+        )
+    }
+}
 
 // The place of a pair of bridges in a square of 6 by 6.
 fn place(i: u16, j: u16) -> usize
@@ -78,7 +142,7 @@ fn bit(number: u16) -> u16 {
 }
 
 // Random lines of few slots.
-fn lay_lines(network: &mut Desk<Slots>, dice: &mut Dice) -> Result<(), Refusal> {
+fn lay_lines(network: &mut Network, dice: &mut Dice) -> Result<(), Refusal> {
     for _ in 0..dice.up_to(16) {
         let grade = Slots::new(u32::from(dice.up_to(6)))?;
         let (near, far) = (dice.up_to(BRIDGES), dice.up_to(BRIDGES));
@@ -88,10 +152,10 @@ fn lay_lines(network: &mut Desk<Slots>, dice: &mut Dice) -> Result<(), Refusal> 
 }
 
 // The slots with the lines of a set turned round.
-fn turned_round(network: &Desk<Slots>, set: u16) -> Slotted {
+fn turned_round(network: &Network, set: u16) -> Slotted {
     let mut net = Slotted { slots: [0; 36] };
     let mut mask = 1u16;
-    for line in network.lines() {
+    for line in &network.lines {
         if line.stands() {
             let at = if set & mask == 0 {
                 place(line.near, line.far)
@@ -106,7 +170,7 @@ fn turned_round(network: &Desk<Slots>, set: u16) -> Slotted {
 }
 
 // The best width that any set gives.
-fn best(network: &Desk<Slots>, start: u16, end: u16) -> u32 {
+fn best(network: &Network, start: u16, end: u16) -> u32 {
     let mut best = 0;
     for set in 0..SETS {
         best = best.max(turned_round(network, set).widest(start, end));
@@ -115,17 +179,17 @@ fn best(network: &Desk<Slots>, start: u16, end: u16) -> u32 {
 }
 
 // The first `count` named lines as a set.
-fn named(network: &Desk<Slots>, count: usize) -> u16 {
+fn named(network: &Network, count: usize) -> u16 {
     let mut set = 0;
-    for number in network.turned().iter().take(count) {
+    for number in network.turned.iter().take(count) {
         set |= bit(*number);
     }
     set
 }
 
 // Whether the told route joins at the told width with the named lines turned, and with no set that lacks one of them.
-fn is_least(network: &Desk<Slots>, told: Turned) -> bool {
-    let Some(route) = network.numbers().get(0..told.bridges) else {
+fn is_least(network: &Network, told: Turned) -> bool {
+    let Some(route) = network.bridges.get(0..told.bridges) else {
         return false;
     };
     let named = named(network, told.turned);
@@ -142,7 +206,7 @@ fn is_least(network: &Desk<Slots>, told: Turned) -> bool {
 }
 
 // One question, compared.
-fn try_pair(network: &mut Desk<Slots>, start: u16, end: u16, tally: &mut Tally) {
+fn try_pair(network: &mut Network, start: u16, end: u16, tally: &mut Tally) {
     let best = best(network, start, end);
     match network.turn(start, end) {
         Ok(told) => {
@@ -163,7 +227,7 @@ fn try_pair(network: &mut Desk<Slots>, start: u16, end: u16, tally: &mut Tally) 
     }
 }
 
-fn try_pairs(network: &mut Desk<Slots>, tally: &mut Tally) {
+fn try_pairs(network: &mut Network, tally: &mut Tally) {
     for start in 1..=BRIDGES {
         for end in 1..=BRIDGES {
             if start != end {
@@ -182,7 +246,7 @@ fn run(rt: &HostRuntime) -> anyhow::Result<()> {
         wrong: 0,
     };
     for _ in 0..NETWORKS {
-        let mut network = Desk::new(rt.alloc(), BRIDGES, LINES, Slots::holding(1))?;
+        let mut network = Network::new();
         if network.open().is_err() {
             println!(rt; "no book")?;
             return Ok(());

@@ -54,13 +54,15 @@ impl Network {
     }
 
     fn open(&mut self) -> Result<(), Refusal>
-        ensures { (told (λ _. tt) result, memory self.new.head self.new.first self.new.lines) ≡ opening 7 (memory self.old.head self.old.first self.old.lines) }
+        ensures told { (told (λ _. tt) result, memory self.new.head self.new.first self.new.lines) ≡ opening 7 (memory self.old.head self.old.first self.old.lines) }
+        ensures others { (self.new.numbers ≡ self.old.numbers) × (self.new.side ≡ self.old.side) × (self.new.margins ≡ self.old.margins) }
     {
         planner::open(&mut self.head, &mut self.first, &mut self.lines, BRIDGES)
     }
 
     fn lay(&mut self, near: u16, far: u16, grade: Slots) -> Result<u16, Refusal>
-        ensures { (told (λ n. n) result, memory self.new.head self.new.first self.new.lines) ≡ laying (memory self.old.head self.old.first self.old.lines) 76 near far grade }
+        ensures told { (told (λ n. n) result, memory self.new.head self.new.first self.new.lines) ≡ laying (memory self.old.head self.old.first self.old.lines) 76 near far grade }
+        ensures others { (self.new.numbers ≡ self.old.numbers) × (self.new.side ≡ self.old.side) × (self.new.margins ≡ self.old.margins) }
     {
         lines::lay(
             &mut self.head,
@@ -74,7 +76,8 @@ impl Network {
     }
 
     fn regrade(&mut self, near: u16, far: u16, grade: Slots) -> Result<u16, Refusal>
-        ensures { (told (λ n. n) result, memory self.new.head self.new.first self.new.lines) ≡ regrading (memory self.old.head self.old.first self.old.lines) 76 near far grade }
+        ensures told { (told (λ n. n) result, memory self.new.head self.new.first self.new.lines) ≡ regrading (memory self.old.head self.old.first self.old.lines) 76 near far grade }
+        ensures others { (self.new.numbers ≡ self.old.numbers) × (self.new.side ≡ self.old.side) × (self.new.margins ≡ self.old.margins) }
     {
         lines::regrade(
             &self.head,
@@ -90,6 +93,7 @@ impl Network {
     fn route(&mut self, from: u16, to: u16) -> Result<Found<Slots>, Refusal>
         ensures told { (told (λ f. f) result, (self.new.numbers, self.new.side)) ≡ routing slots_le (memory self.old.head self.old.first self.old.lines) 76 from to self.old.numbers self.old.side }
         ensures book { memory self.new.head self.new.first self.new.lines ≡ memory self.old.head self.old.first self.old.lines }
+        ensures others { self.new.margins ≡ self.old.margins }
     {
         route::route(
             &self.head,
@@ -107,6 +111,7 @@ impl Network {
     fn margins(&mut self, length: usize) -> Result<(), Refusal>
         ensures told { (told (λ _. tt) result, self.new.margins) ≡ margins_asked slots_le (memory self.old.head self.old.first self.old.lines) 76 (take (min length 7) self.old.numbers) self.old.margins }
         ensures book { memory self.new.head self.new.first self.new.lines ≡ memory self.old.head self.old.first self.old.lines }
+        ensures others { (self.new.numbers ≡ self.old.numbers) × (self.new.side ≡ self.old.side) }
     {
         margins::margins(
             &self.head,

@@ -64,13 +64,15 @@ impl Network {
     }
 
     fn open(&mut self) -> Result<(), Refusal>
-        ensures { (told (λ _. tt) result, memory self.new.head self.new.first self.new.lines) ≡ opening 256 (memory self.old.head self.old.first self.old.lines) }
+        ensures told { (told (λ _. tt) result, memory self.new.head self.new.first self.new.lines) ≡ opening 256 (memory self.old.head self.old.first self.old.lines) }
+        ensures others { (self.new.numbers ≡ self.old.numbers) × (self.new.turned ≡ self.old.turned) × (self.new.side ≡ self.old.side) × (self.new.margins ≡ self.old.margins) }
     {
         planner::open(&mut self.head, &mut self.first, &mut self.lines, BRIDGES)
     }
 
     fn lay(&mut self, near: u16, far: u16, grade: Slots) -> Result<u16, Refusal>
-        ensures { (told (λ n. n) result, memory self.new.head self.new.first self.new.lines) ≡ laying (memory self.old.head self.old.first self.old.lines) 3072 near far grade }
+        ensures told { (told (λ n. n) result, memory self.new.head self.new.first self.new.lines) ≡ laying (memory self.old.head self.old.first self.old.lines) 3072 near far grade }
+        ensures others { (self.new.numbers ≡ self.old.numbers) × (self.new.turned ≡ self.old.turned) × (self.new.side ≡ self.old.side) × (self.new.margins ≡ self.old.margins) }
     {
         lines::lay(
             &mut self.head,
@@ -86,6 +88,7 @@ impl Network {
     fn route(&mut self, from: u16, to: u16) -> Result<Found<Slots>, Refusal>
         ensures told { (told (λ f. f) result, (self.new.numbers, self.new.side)) ≡ routing slots_le (memory self.old.head self.old.first self.old.lines) 3072 from to self.old.numbers self.old.side }
         ensures book { memory self.new.head self.new.first self.new.lines ≡ memory self.old.head self.old.first self.old.lines }
+        ensures others { (self.new.turned ≡ self.old.turned) × (self.new.margins ≡ self.old.margins) }
     {
         route::route(
             &self.head,
@@ -103,6 +106,7 @@ impl Network {
     fn margins(&mut self, length: usize) -> Result<(), Refusal>
         ensures told { (told (λ _. tt) result, self.new.margins) ≡ margins_asked slots_le (memory self.old.head self.old.first self.old.lines) 3072 (take (min length 256) self.old.numbers) self.old.margins }
         ensures book { memory self.new.head self.new.first self.new.lines ≡ memory self.old.head self.old.first self.old.lines }
+        ensures others { (self.new.numbers ≡ self.old.numbers) × (self.new.turned ≡ self.old.turned) × (self.new.side ≡ self.old.side) }
     {
         margins::margins(
             &self.head,
@@ -118,6 +122,7 @@ impl Network {
     fn turn(&mut self, from: u16, to: u16) -> Result<Turned, Refusal>
         ensures told { (told parts result, (self.new.numbers, self.new.turned)) ≡ turning_round slots_of (memory self.old.head self.old.first self.old.lines) 3072 from to self.old.numbers self.old.turned }
         ensures book { memory self.new.head self.new.first self.new.lines ≡ memory self.old.head self.old.first self.old.lines }
+        ensures others { (self.new.side ≡ self.old.side) × (self.new.margins ≡ self.old.margins) }
     {
         turn::turn(
             &self.head,
@@ -135,6 +140,7 @@ impl Network {
     fn load(&mut self) -> Result<u32, Refusal>
         ensures told { told (λ s. s) result ≡ loading slots_of (memory self.old.head self.old.first self.old.lines) 3072 }
         ensures book { memory self.new.head self.new.first self.new.lines ≡ memory self.old.head self.old.first self.old.lines }
+        ensures others { (self.new.numbers ≡ self.old.numbers) × (self.new.turned ≡ self.old.turned) × (self.new.side ≡ self.old.side) × (self.new.margins ≡ self.old.margins) }
     {
         turn::load(&self.head, &self.first, &self.lines, &mut self.work)
     }

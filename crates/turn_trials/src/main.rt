@@ -47,13 +47,15 @@ impl Network {
     }
 
     fn open(&mut self) -> Result<(), Refusal>
-        ensures { (told (λ _. tt) result, memory self.new.head self.new.first self.new.lines) ≡ opening 5 (memory self.old.head self.old.first self.old.lines) }
+        ensures told { (told (λ _. tt) result, memory self.new.head self.new.first self.new.lines) ≡ opening 5 (memory self.old.head self.old.first self.old.lines) }
+        ensures others { (self.new.bridges ≡ self.old.bridges) × (self.new.turned ≡ self.old.turned) }
     {
         planner::open(&mut self.head, &mut self.first, &mut self.lines, BRIDGES)
     }
 
     fn lay(&mut self, near: u16, far: u16, grade: Slots) -> Result<u16, Refusal>
-        ensures { (told (λ n. n) result, memory self.new.head self.new.first self.new.lines) ≡ laying (memory self.old.head self.old.first self.old.lines) 48 near far grade }
+        ensures told { (told (λ n. n) result, memory self.new.head self.new.first self.new.lines) ≡ laying (memory self.old.head self.old.first self.old.lines) 48 near far grade }
+        ensures others { (self.new.bridges ≡ self.old.bridges) × (self.new.turned ≡ self.old.turned) }
     {
         lines::lay(
             &mut self.head,
